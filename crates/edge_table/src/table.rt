@@ -1,0 +1,102 @@
+//! The rows of all points.
+ghost use Rattle.std.specs.Prelude.{◌≡◌, ◌≢◌, ℕ, ◌+◌, ◌<◌, ◌≤◌, vec_len, OnOk, if◌then◌else◌, nat_eq};
+ghost use Rattle.mesh_base.specs.Mesh.{IsWithin};
+ghost use Rattle.edge_table.specs.Pairs.{pair_count, pair_share};
+ghost use Rattle.edge_table.specs.Rows.{shown, AreRows, HasRoomAt, HaveRoom};
+
+use crate::row::{Row, add_three, drop_three, reserve_three};
+use mesh_base::{Cell, NoMemory};
+
+// Makes room for three more neighbours of v.
+fn reserve_at(rows: &mut Vec<Row>, v: u32) -> Result<(), NoMemory>
+    requires within { v < vec_len rows.old }
+    ensures shown { shown rows.new.items ≡ shown rows.old.items }
+    ensures len { vec_len rows.new ≡ vec_len rows.old }
+    ensures room { OnOk result (HasRoomAt rows.new.items v) }
+    ensures keeps { (u : ℕ) → HasRoomAt rows.old.items u → HasRoomAt rows.new.items u }
+{
+    reserve_three(&mut rows[v as usize])
+}
+
+/// Makes room for the pairs of a cell. What the rows show stays the same.
+pub fn reserve_pairs(rows: &mut Vec<Row>, cell: &Cell) -> Result<(), NoMemory>
+    requires within { IsWithin (vec_len rows.old) cell.now }
+    ensures shown { shown rows.new.items ≡ shown rows.old.items }
+    ensures len { vec_len rows.new ≡ vec_len rows.old }
+    ensures room { OnOk result (HaveRoom rows.new.items cell.now) }
+{
+    let [a, b, c, d] = cell.corners();
+    reserve_at(rows, a)?;
+    reserve_at(rows, b)?;
+    reserve_at(rows, c)?;
+    reserve_at(rows, d)
+}
+
+// One cell more has x, y and z beside v.
+fn add_at(rows: &mut Vec<Row>, v: u32, x: u32, y: u32, z: u32)
+    requires within { v < vec_len rows.old }
+    requires rows { AreRows (shown rows.old.items) }
+    requires room { HasRoomAt rows.old.items v }
+    requires fits { (u : ℕ) → pair_count (shown rows.old.items) v u < 4000000 }
+    ensures rows { AreRows (shown rows.new.items) }
+    ensures len { vec_len rows.new ≡ vec_len rows.old }
+    ensures here { (u : ℕ) → pair_count (shown rows.new.items) v u
+        ≡ pair_count (shown rows.old.items) v u
+        + (if nat_eq x u then 1 else 0) + (if nat_eq y u then 1 else 0) + (if nat_eq z u then 1 else 0) }
+    ensures others { (w u : ℕ) → w ≢ v
+        → pair_count (shown rows.new.items) w u ≡ pair_count (shown rows.old.items) w u }
+    ensures keeps { (w : ℕ) → w ≢ v → HasRoomAt rows.old.items w → HasRoomAt rows.new.items w }
+{
+    add_three(&mut rows[v as usize], x, y, z);
+}
+
+// One cell less has x, y and z beside v.
+fn drop_at(rows: &mut Vec<Row>, v: u32, x: u32, y: u32, z: u32)
+    requires within { v < vec_len rows.old }
+    requires rows { AreRows (shown rows.old.items) }
+    requires there { (u : ℕ) → (if nat_eq x u then 1 else 0) + (if nat_eq y u then 1 else 0) + (if nat_eq z u then 1 else 0)
+        ≤ pair_count (shown rows.old.items) v u }
+    ensures rows { AreRows (shown rows.new.items) }
+    ensures len { vec_len rows.new ≡ vec_len rows.old }
+    ensures here { (u : ℕ) → pair_count (shown rows.new.items) v u
+        + (if nat_eq x u then 1 else 0) + (if nat_eq y u then 1 else 0) + (if nat_eq z u then 1 else 0)
+        ≡ pair_count (shown rows.old.items) v u }
+    ensures others { (w u : ℕ) → w ≢ v
+        → pair_count (shown rows.new.items) w u ≡ pair_count (shown rows.old.items) w u }
+{
+    drop_three(&mut rows[v as usize], x, y, z);
+}
+
+/// One cell more has the pairs of its corners.
+pub fn put_pairs(rows: &mut Vec<Row>, cell: &Cell)
+    requires within { IsWithin (vec_len rows.old) cell.now }
+    requires rows { AreRows (shown rows.old.items) }
+    requires room { HaveRoom rows.old.items cell.now }
+    requires fits { (v u : ℕ) → pair_count (shown rows.old.items) v u < 4000000 }
+    ensures rows { AreRows (shown rows.new.items) }
+    ensures len { vec_len rows.new ≡ vec_len rows.old }
+    ensures pairs { (v u : ℕ) → pair_count (shown rows.new.items) v u
+        ≡ pair_count (shown rows.old.items) v u + pair_share cell.now v u }
+{
+    let [a, b, c, d] = cell.corners();
+    add_at(rows, a, b, c, d);
+    add_at(rows, b, a, c, d);
+    add_at(rows, c, a, b, d);
+    add_at(rows, d, a, b, c);
+}
+
+/// One cell less has them.
+pub fn take_pairs(rows: &mut Vec<Row>, cell: &Cell)
+    requires rows { AreRows (shown rows.old.items) }
+    requires there { (v u : ℕ) → pair_share cell.now v u ≤ pair_count (shown rows.old.items) v u }
+    ensures rows { AreRows (shown rows.new.items) }
+    ensures len { vec_len rows.new ≡ vec_len rows.old }
+    ensures pairs { (v u : ℕ) → pair_count (shown rows.new.items) v u + pair_share cell.now v u
+        ≡ pair_count (shown rows.old.items) v u }
+{
+    let [a, b, c, d] = cell.corners();
+    drop_at(rows, a, b, c, d);
+    drop_at(rows, b, a, c, d);
+    drop_at(rows, c, a, b, d);
+    drop_at(rows, d, a, b, c);
+}

@@ -1,0 +1,66 @@
+-- lemmas on the table of a list of cells
+use Rattle.std.proofs.Common.{◌≡◌, ℕ, ◌+◌, ◌*◌, ◌<◌, ◌≤◌, Bool, true, false, ◌||◌, ltb, IfSome, refl, List, [], ◌∷◌, length, get_or, take, flat_map, filter, inl, inr, Option, Some, None, Vec, vec_capacity, sym, ap, subst, ◌∙◌, arith, length-append}
+use Rattle.std.specs.declared.alloc.Global.{Global}
+use Rattle.std.specs.List.{range_with_len}
+use Rattle.std.proofs.lemmas.Bool.Decides.{nat_tests}
+use Rattle.std.proofs.lemmas.List.Elements.{All-head, All-tail}
+use Rattle.std.proofs.lemmas.Bool.{cases_lt, false≢true}
+use Rattle.std.proofs.lemmas.List.{take_more, get_or_past}
+use Rattle.std.proofs.lemmas.List.Sums.{count_by-le-length}
+use Rattle.mesh_base.specs.Mesh.{Face, Corners, IsWithin, AreWithin, has_corner, is_vertex, is_on, live, faces, face_eq, face_count}
+use Rattle.mesh_base.specs.Numbers.{IsListOf}
+use Rattle.mesh_base.proofs.FaceLaws.{face_count-append, face_vertex}
+use Rattle.mesh_base.proofs.Ascending.{IsListOf-filter_range}
+use Rattle.face_table.specs.Tally.{IsBelow, Matches}
+
+-- a cell has four faces
+length-faces : (cells : List (Option Corners)) → length (flat_map faces (live cells)) ≤ 4 * length cells
+length-faces [] = omega arith
+length-faces (None ∷ cells) = omega (arith, length-faces cells)
+length-faces (Some c ∷ cells) = omega (arith, length-faces cells, length-append (faces c) (flat_map faces (live cells)))
+
+pub face_count-le : (cells : List (Option Corners)) (f : Face) → face_count cells f ≤ 4 * length cells
+face_count-le cells f = omega (arith, length-faces cells, count_by-le-length (λ g. face_eq g f) (flat_map faces (live cells)))
+
+pub face_count-more : (cells : List (Option Corners)) (i : ℕ) (cell : Option Corners) (f : Face) → i < length cells → get_or cells i cell ≡ cell
+    → face_count (take (i + 1) cells) f ≡ face_count (take i cells) f + face_count (cell ∷ []) f
+face_count-more cells i cell f lt e =
+    ap (λ l. face_count l f) (take_more cells i cell lt) ∙ face_count-append (take i cells) (get_or cells i cell ∷ []) f
+    ∙ ap (λ k. face_count (take i cells) f + face_count (k ∷ []) f) e
+
+-- the filter of the numbers that have a single face
+pub listed_below : (singles : List ℕ) (surface : Vec ℕ Global) → surface.items ≡ filter (λ w. ltb 0 (get_or singles w 0)) (range_with_len 0 (length singles)) → length singles ≤ vec_capacity surface → IsBelow (length singles) surface
+listed_below singles surface e room =
+    let l = IsListOf-filter_range (λ w. ltb 0 (get_or singles w 0)) (length singles) in
+    let m = subst (IsListOf (λ w. (w < length singles) × (ltb 0 (get_or singles w 0) ≡ true))) (sym e) l in
+    record { ascending = m.ascending; below = λ w h. (m.only w h).0; room = room }
+
+pub listed_all : (singles : List ℕ) (items : List ℕ) → items ≡ filter (λ w. ltb 0 (get_or singles w 0)) (range_with_len 0 (length singles)) → (w : ℕ) → Matches singles items w
+listed_all singles items e w =
+    let l = IsListOf-filter_range (λ w. ltb 0 (get_or singles w 0)) (length singles) in
+    let m = subst (IsListOf (λ w. (w < length singles) × (ltb 0 (get_or singles w 0) ≡ true))) (sym e) l in (
+      λ h. let t = (m.only w h).1 in grind (arith, nat_tests),
+      λ p. m.every w (within p, grind (arith, nat_tests)),
+    )
+  where
+    within : 0 < get_or singles w 0 → w < length singles
+    within p = elim (cases_lt w (length singles)) [ inl l ↦ l | inr g ↦ (let z = get_or_past singles w 0 g in absurd (omega arith)) ]
+
+-- the points of cells are below their number
+corner_within : (n : ℕ) (c : Corners) (v : ℕ) → IsWithin n c → has_corner c v ≡ true → v < n
+corner_within n c v w h = grind (arith, nat_tests)
+
+vertex_within : (n : ℕ) (cells : List (Option Corners)) (v : ℕ) → AreWithin n cells → is_vertex cells v ≡ true → v < n
+vertex_within n [] v a h = absurd (false≢true h)
+vertex_within n (None ∷ cells) v a h = vertex_within n cells v (All-tail (λ cell. IfSome cell (IsWithin n)) None cells a) h
+vertex_within n (Some c ∷ cells) v a h = by (has_corner c v) refl h (vertex_within n cells v (All-tail (λ cell. IfSome cell (IsWithin n)) (Some c) cells a))
+  where
+    by : (b : Bool) → has_corner c v ≡ b → (b || is_vertex cells v) ≡ true → (is_vertex cells v ≡ true → v < n) → v < n
+    by true q h rest = corner_within n c v (All-head (λ cell. IfSome cell (IsWithin n)) (Some c) cells a) q
+    by false q h rest = rest h
+
+pub face_within : (n : ℕ) (cells : List (Option Corners)) (f : Face) → AreWithin n cells → 0 < face_count cells f → f.2 < n
+face_within n cells f a lt = vertex_within n cells f.2 a (face_vertex cells f f.2 own lt)
+  where
+    own : is_on f f.2 ≡ true
+    own = grind (arith, nat_tests)

@@ -1,0 +1,356 @@
+//! Tables beside surfaces that were worked out by hand, and beside tables that are built anew.
+ghost use Rattle.std.specs.Prelude.{◌≡◌, ◌+◌, ◌<◌, ◌↔◌, [], length, IsTrue, OnOk, IfOk};
+ghost use Rattle.mesh_base.specs.Edit.{cell_at};
+ghost use Rattle.mesh_base.specs.Mesh.{IsWithin};
+ghost use Rattle.face_table.specs.Tally.{IsTallyOf};
+
+use crate::FaceTable;
+use mesh_base::{Cell, CellList, Face, MOST_CELLS, Mesh, Point, PointList};
+use std::alloc::Global;
+use std::test::Fail;
+
+// A table of points that no cell has.
+fn bare(alloc: Global, points: u32) -> Result<FaceTable, Fail>
+    ensures points { IfOk result (λ table. table.points ≡ points) }
+    ensures cells { IfOk result (IsTallyOf []) }
+{
+    let mut table = FaceTable::build(alloc, 0, &[])?;
+    for _point in 0..points {
+        table.put_point(alloc)?;
+    }
+    Ok(table)
+}
+
+fn is_within(cell: &Cell, points: u32) -> bool
+    ensures { IsTrue result ↔ IsWithin points cell.now }
+{
+    let [a, b, c, d] = cell.corners();
+    a < points && b < points && c < points && d < points
+}
+
+// Appends a cell to the list, and puts it into the table.
+fn append(
+    alloc: Global,
+    table: &mut FaceTable,
+    points: u32,
+    cells: &mut Vec<Option<Cell>>,
+    corners: [u32; 4],
+) -> Result<(), Fail>
+    requires points { table.old.points ≡ points }
+    requires cells { IsTallyOf cells.old.items table.old }
+    ensures points { table.new.points ≡ table.old.points }
+    ensures cells { OnOk result (IsTallyOf cells.new.items table.new) }
+{
+    let cell = Cell::new(corners).ok_or("a corner twice")?;
+    if !is_within(&cell, points) || cells.len() >= MOST_CELLS {
+        return Err(Fail::new("limits"));
+    }
+    cells.reserve(1)?;
+    table.put_cell(alloc, cell)?;
+    cells.push_reserved(Some(cell));
+    Ok(())
+}
+
+// Cell i, if it is there and live.
+fn live_cell(cells: &[Option<Cell>], i: usize) -> Option<Cell>
+    ensures { result ≡ cell_at cells.now i }
+{
+    match cells.get(i) {
+        Some(cell) => *cell,
+        None => None,
+    }
+}
+
+// Makes cell i absent, and takes it out of the table.
+fn remove(
+    table: &mut FaceTable,
+    points: u32,
+    cells: &mut Vec<Option<Cell>>,
+    i: usize,
+) -> Result<Cell, Fail>
+    requires points { table.old.points ≡ points }
+    requires cells { IsTallyOf cells.old.items table.old }
+    ensures points { table.new.points ≡ table.old.points }
+    ensures cells { IsTallyOf cells.new.items table.new }
+{
+    match live_cell(cells, i) {
+        Some(cell) if i < cells.len() && is_within(&cell, points) => {
+            table.take_cell(cell);
+            cells[i] = None;
+            Ok(cell)
+        }
+        _ => Err(Fail::new("no cell")),
+    }
+}
+
+// Replaces cell i by four cells round a new point.
+fn split(
+    alloc: Global,
+    table: &mut FaceTable,
+    point: u32,
+    cells: &mut Vec<Option<Cell>>,
+    i: usize,
+) -> Result<(), Fail>
+    requires points { table.old.points ≡ point }
+    requires cells { IsTallyOf cells.old.items table.old }
+    ensures points { OnOk result (table.new.points ≡ point + 1) }
+    ensures cells { OnOk result (IsTallyOf cells.new.items table.new) }
+{
+    let points = point.checked_add(1).ok_or("points")?;
+    table.put_point(alloc)?;
+    let [a, b, c, d] = remove(table, points, cells, i)?.corners();
+    append(alloc, table, points, cells, [point, b, c, d])?;
+    append(alloc, table, points, cells, [a, point, c, d])?;
+    append(alloc, table, points, cells, [a, b, point, d])?;
+    append(alloc, table, points, cells, [a, b, c, point])
+}
+
+// A mesh with these cells, whose points lie all in one place.
+fn mesh_of(alloc: Global, points: u32, cells: &[Option<Cell>]) -> Result<Mesh, Fail>
+    ensures { IfOk result (λ mesh. length mesh.points ≡ points) }
+{
+    let place = Point::new(0, 0, 0).ok_or("place")?;
+    let places = PointList::of(vec![in alloc; place; points as usize]?);
+    let cells = CellList::of(cells.to_vec(alloc)?);
+    let mesh = Mesh::new(places, cells).ok_or("limits")?;
+    Ok(mesh)
+}
+
+// How many vertices the surface has, where the table is that which is built anew from the cells.
+fn compared(
+    alloc: Global,
+    table: &FaceTable,
+    points: u32,
+    cells: &[Option<Cell>],
+) -> Result<usize, Fail> {
+    let mesh = mesh_of(alloc, points, cells)?;
+    let built = FaceTable::build(alloc, points, mesh.cells())?;
+    for cell in cells.iter().flatten() {
+        for face in cell.faces() {
+            if table.tally(face) != built.tally(face) {
+                return Err(Fail::new(format_args!("faces of {cell:?}")));
+            }
+        }
+    }
+    if table.surface() != built.surface() {
+        return Err(Fail::new("surface"));
+    }
+    Ok(built.surface().len())
+}
+
+// Appends cells, and puts them into the table.
+fn fill(
+    alloc: Global,
+    table: &mut FaceTable,
+    points: u32,
+    cells: &mut Vec<Option<Cell>>,
+    corners: &[[u32; 4]],
+) -> Result<(), Fail>
+    requires points { table.old.points ≡ points }
+    requires cells { IsTallyOf cells.old.items table.old }
+    ensures points { table.new.points ≡ table.old.points }
+    ensures cells { OnOk result (IsTallyOf cells.new.items table.new) }
+{
+    for four in corners {
+        append(alloc, table, points, cells, *four)?;
+    }
+    Ok(())
+}
+
+// Takes out cells.
+fn clear(
+    table: &mut FaceTable,
+    points: u32,
+    cells: &mut Vec<Option<Cell>>,
+    places: &[usize],
+) -> Result<(), Fail>
+    requires points { table.old.points ≡ points }
+    requires cells { IsTallyOf cells.old.items table.old }
+    ensures points { table.new.points ≡ table.old.points }
+    ensures cells { IsTallyOf cells.new.items table.new }
+{
+    for i in places {
+        remove(table, points, cells, *i)?;
+    }
+    Ok(())
+}
+
+// Splits the first cells, each round a point of its own.
+fn split_first(
+    alloc: Global,
+    table: &mut FaceTable,
+    points: u32,
+    cells: &mut Vec<Option<Cell>>,
+    count: u32,
+) -> Result<(), Fail>
+    requires points { table.old.points ≡ points }
+    requires few { points + count < 1000000 }
+    requires cells { IsTallyOf cells.old.items table.old }
+    ensures points { OnOk result (table.new.points ≡ points + count) }
+    ensures cells { OnOk result (IsTallyOf cells.new.items table.new) }
+{
+    for i in 0..count {
+        split(alloc, table, points + i, cells, i as usize)?;
+    }
+    Ok(())
+}
+
+// Cells of which some are taken out, a face with the count that it then has, and the surface.
+#[derive(Clone, Copy)]
+struct Case {
+    points: u32,
+    put: &'static [[u32; 4]],
+    taken: &'static [usize],
+    face: [u32; 3],
+    count: u32,
+    surface: &'static [u32],
+}
+
+fn tally(table: &FaceTable, face: [u32; 3]) -> u32 {
+    let [a, b, c] = face;
+    if a == b || a == c || b == c {
+        return 0;
+    }
+    table.tally(Face::new(a, b, c))
+}
+
+fn check_case(alloc: Global, case: &Case) -> Result<(), Fail> {
+    let mut table = bare(alloc, case.points)?;
+    let mut cells = Vec::new(alloc);
+    fill(alloc, &mut table, case.points, &mut cells, case.put)?;
+    clear(&mut table, case.points, &mut cells, case.taken)?;
+    if table.surface() != case.surface {
+        return Err(Fail::new(format_args!("surface {:?}", table.surface())));
+    }
+    if tally(&table, case.face) != case.count {
+        return Err(Fail::new(format_args!("count of {:?}", case.face)));
+    }
+    compared(alloc, &table, case.points, cells.as_slice())?;
+    Ok(())
+}
+
+// A cell that was split round point 4, and a cell of that round point 5.
+const TWO_SPLITS: &[[u32; 4]] = &[
+    [0, 1, 2, 3],
+    [4, 1, 2, 3],
+    [0, 4, 2, 3],
+    [0, 1, 4, 3],
+    [0, 1, 2, 4],
+    [5, 4, 2, 3],
+    [0, 5, 2, 3],
+    [0, 4, 5, 3],
+    [0, 4, 2, 5],
+];
+
+// Five cells over five points, each face on two of them.
+const CLOSED: &[[u32; 4]] = &[
+    [0, 1, 2, 3],
+    [0, 1, 2, 4],
+    [0, 1, 3, 4],
+    [0, 2, 3, 4],
+    [1, 2, 3, 4],
+];
+
+#[test]
+fn surfaces_are_those_of_the_cells(rt: HostRuntime) -> Result<(), Fail> {
+    for (points, put, taken, face, count, surface) in [
+        (
+            6,
+            TWO_SPLITS,
+            [0, 2].as_slice(),
+            [1, 4, 0],
+            2,
+            [0, 1, 2, 3].as_slice(),
+        ),
+        (6, TWO_SPLITS, &[2, 0, 3], [1, 4, 0], 1, &[0, 1, 2, 3, 4]),
+        (5, CLOSED, &[], [2, 1, 0], 2, &[]),
+        (5, CLOSED, &[4], [1, 2, 3], 1, &[1, 2, 3, 4]),
+        (4, &[[0, 1, 2, 3], [3, 2, 1, 0]], &[], [1, 2, 3], 2, &[]),
+        (
+            4,
+            &[[0, 1, 2, 3], [3, 2, 1, 0]],
+            &[0],
+            [1, 2, 3],
+            1,
+            &[0, 1, 2, 3],
+        ),
+        (7, &[[4, 1, 2, 6]], &[], [1, 2, 4], 1, &[1, 2, 4, 6]),
+        (7, &[[4, 1, 2, 6]], &[0], [1, 2, 4], 0, &[]),
+    ] {
+        let case = Case {
+            points,
+            put,
+            taken,
+            face,
+            count,
+            surface,
+        };
+        check_case(rt.alloc(), &case)?;
+    }
+    Ok(())
+}
+
+#[test]
+fn points_come_and_go(rt: HostRuntime) -> Result<(), Fail> {
+    let mut table = bare(rt.alloc(), 1)?;
+    table.put_point(rt.alloc())?;
+    table.drop_point();
+    table.put_point(rt.alloc())?;
+    assert_eq!(rt; table.surface().len(), 0);
+    Ok(())
+}
+
+// The six cells of a cube whose least corner is p, where its rows are y apart and its layers z.
+fn cube(p: u32, y: u32, z: u32) -> [[u32; 4]; 6] {
+    let x = p.wrapping_add(1);
+    let xy = x.wrapping_add(y);
+    let xz = x.wrapping_add(z);
+    let yz = p.wrapping_add(y).wrapping_add(z);
+    let q = xy.wrapping_add(z);
+    let y = p.wrapping_add(y);
+    let z = p.wrapping_add(z);
+    [
+        [p, x, xy, q],
+        [p, x, xz, q],
+        [p, y, xy, q],
+        [p, y, yz, q],
+        [p, z, xz, q],
+        [p, z, yz, q],
+    ]
+}
+
+// The cells of a block of n cubes a side.
+fn block(alloc: Global, n: u32) -> Result<Vec<[u32; 4]>, Fail> {
+    let mut cells = Vec::new(alloc);
+    let y = n.wrapping_add(1);
+    let z = y.wrapping_mul(y);
+    for k in 0..n {
+        for j in 0..n {
+            for i in 0..n {
+                let p = i
+                    .wrapping_add(y.wrapping_mul(j))
+                    .wrapping_add(z.wrapping_mul(k));
+                cells.extend_from_slice(&cube(p, y, z))?;
+            }
+        }
+    }
+    Ok(cells)
+}
+
+// A block of n cubes a side has 6 n n + 2 points on its sides, and a split adds none.
+#[test]
+fn ten_thousand_splits_are_as_built_anew(rt: HostRuntime) -> Result<(), Fail> {
+    let alloc = rt.alloc();
+    let corners = block(alloc, 20)?;
+    let mut table = bare(alloc, 9_261)?;
+    let mut cells = Vec::new(alloc);
+    fill(alloc, &mut table, 9_261, &mut cells, &corners)?;
+    assert_eq!(rt; compared(alloc, &table, 9_261, cells.as_slice())?, 2_402);
+    split_first(alloc, &mut table, 9_261, &mut cells, 10_000)?;
+    assert_eq!(rt;
+        (cells.len(), cells.iter().flatten().count()),
+        (88_000, 78_000)
+    );
+    assert_eq!(rt; compared(alloc, &table, 19_261, cells.as_slice())?, 2_402);
+    Ok(())
+}

@@ -1,0 +1,13 @@
+pub mod CellLists
+pub mod Ascending
+pub mod Once
+pub mod Corners
+pub mod AnswerLaws
+pub mod FaceLaws
+pub mod JoinedLaws
+pub mod NumberLaws
+pub mod PartLaws
+pub mod WalkLaws
+pub mod EditLaws
+pub mod Distances
+pub mod SampleLaws

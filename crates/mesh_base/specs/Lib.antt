@@ -1,0 +1,13 @@
+pub mod Place
+pub mod Numbers
+pub mod Mesh
+pub mod Edit
+pub mod Kernel
+pub mod Scan
+pub mod Paths
+pub mod Parts
+pub mod Walk
+pub mod Answer
+pub mod Reads
+pub mod Samples
+pub mod Query

@@ -1,0 +1,11 @@
+pub mod Digits
+pub mod TokenLemmas
+pub mod LineLemmas
+pub mod ScanLemmas
+pub mod Quotient
+pub mod PartsLemmas
+pub mod SpelledLemmas
+pub mod Written
+pub mod ReadAgain
+pub mod AllTokensLemmas
+pub mod PrintingLemmas

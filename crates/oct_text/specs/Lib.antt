@@ -1,0 +1,9 @@
+pub mod Rest
+pub mod Kept
+pub mod AllTokens
+pub mod Taken
+pub mod Numbers
+pub mod Scan
+pub mod Parts
+pub mod Line
+pub mod Printing

@@ -1,0 +1,9 @@
+pub mod Words
+pub mod Lines
+pub mod Due
+pub mod Written
+pub mod Reading
+pub mod Answers
+pub mod Codes
+pub mod Stops
+pub mod Block

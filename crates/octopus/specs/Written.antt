@@ -1,0 +1,66 @@
+-- What a status says of what was due and of what was written.
+use Rattle.std.specs.Prelude.{◌≡◌, ℕ, List, take, Option, Some, None, IsSome, ◌⊎◌}
+use Rattle.std.specs.Io.KnownBytes.{Appends, Keeps}
+use Rattle.octopus.specs.declared.status.Status.{Status}
+use Rattle.octopus.specs.declared.status.Status.TheVariants.{Done, Usage, Memory, ReadFault, WriteFault, TooLong, BadMesh}
+use Rattle.octopus.specs.Due.{Due, Missing, Refuse, Text}
+
+-- the status that goes with what is due, where the files are there
+abbrev pub settled : Due → Option Status
+settled Missing = None
+settled (Refuse status line) = Some status
+settled (Text text) = Some Done
+
+-- x is the text that is due
+abbrev pub Spells : Due → List ℕ → Type 0
+Spells Missing x = ⊥
+Spells (Refuse status line) x = x ≡ line
+Spells (Text text) x = x ≡ text
+
+-- the whole of a text that is due was added
+pub record Ends (due : Due) (old new : Option (List ℕ)) : Type 0 where
+  pub text : List ℕ
+  pub spelled : Spells due text
+  pub added : Appends old new text
+
+-- the front of a text that is due was added
+pub record Begun (due : Due) (old new : Option (List ℕ)) : Type 0 where
+  pub text : List ℕ
+  pub count : ℕ
+  pub spelled : Spells due text
+  pub added : Appends old new (take count text)
+
+-- nothing was added, or the front of a text that is due
+abbrev pub Begins : Due → Option (List ℕ) → Option (List ℕ) → Type 0
+Begins due old new = Keeps old new ⊎ Begun due old new
+
+-- With this status, this is what was due, and what was added to the bytes written.
+abbrev pub Gives : Due → Status → Option (List ℕ) → Option (List ℕ) → Type 0
+Gives due Memory old new = Begins due old new
+Gives due ReadFault old new = Keeps old new
+Gives due WriteFault old new = IsSome (settled due) × Begins due old new
+Gives due Done old new = (settled due ≡ Some Done) × Ends due old new
+Gives due Usage old new = (settled due ≡ Some Usage) × Ends due old new
+Gives due TooLong old new = (settled due ≡ Some TooLong) × Ends due old new
+Gives due BadMesh old new = (settled due ≡ Some BadMesh) × Ends due old new
+
+-- a status that goes with a text that was written whole
+abbrev pub IsWhole : Status → Type 0
+IsWhole Memory = ⊥
+IsWhole ReadFault = ⊥
+IsWhole WriteFault = ⊥
+IsWhole _ = Unit {0}
+
+-- this status and this text are what is due
+pub record Settles (due : Due) (status : Status) (text : List ℕ) : Type 0 where
+  pub whole : IsWhole status
+  pub due_is : settled due ≡ Some status
+  pub spelled : Spells due text
+
+-- a status that a command may answer once its words have a form
+abbrev pub IsAnswer : Status → Type 0
+IsAnswer Memory = ⊥
+IsAnswer ReadFault = ⊥
+IsAnswer WriteFault = ⊥
+IsAnswer Usage = ⊥
+IsAnswer _ = Unit {0}

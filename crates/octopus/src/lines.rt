@@ -1,0 +1,66 @@
+//! The lines that are written.
+ghost use Rattle.std.specs.Prelude.{◌≡◌, ◌++◌, IfOk, OnOk};
+ghost use Rattle.std.specs.Fmt.{decimal};
+ghost use Rattle.octopus.specs.Lines.{usage_line, long_mesh_line, mesh_line, list_text, list_line};
+
+use itoa::Buffer;
+use mesh_base::NoMemory;
+use oct_text::{put_list, put_text};
+use std::alloc::Global;
+use vtk_legacy::MeshKind;
+
+/// Appends a count or a place.
+fn put_count(alloc: Global, out: &mut Vec<u8>, value: u64) -> Result<(), NoMemory>
+    ensures { OnOk result (out.new.items ≡ out.old.items ++ decimal value) }
+{
+    let mut buffer = Buffer::new();
+    put_text(alloc, out, buffer.format(value).as_bytes())
+}
+
+/// Appends a line of numbers, or nothing where there are none.
+fn put_list_line(alloc: Global, out: &mut Vec<u8>, numbers: &[u32]) -> Result<(), NoMemory>
+    ensures { OnOk result (out.new.items ≡ out.old.items ++ list_line numbers.now) }
+{
+    if numbers.is_empty() {
+        return Ok(());
+    }
+    put_list(alloc, out, numbers)?;
+    put_text(alloc, out, b"\n")
+}
+
+/// The number of a list's items, and the items.
+pub fn list_lines(alloc: Global, numbers: &[u32]) -> Result<Vec<u8>, NoMemory>
+    ensures { IfOk result (λ text. text.items ≡ list_text numbers.now) }
+{
+    let mut out = b"count ".to_vec(alloc)?;
+    put_count(alloc, &mut out, numbers.len() as u64)?;
+    put_text(alloc, &mut out, b"\n")?;
+    put_list_line(alloc, &mut out, numbers)?;
+    Ok(out)
+}
+
+/// The refusal of words without a form.
+pub fn usage_refusal(alloc: Global) -> Result<Vec<u8>, NoMemory>
+    ensures { IfOk result (λ text. text.items ≡ usage_line) }
+{
+    b"refused usage\n".to_vec(alloc)
+}
+
+/// The refusal of a mesh file that is too long.
+pub fn long_mesh_refusal(alloc: Global) -> Result<Vec<u8>, NoMemory>
+    ensures { IfOk result (λ text. text.items ≡ long_mesh_line) }
+{
+    b"refused long mesh\n".to_vec(alloc)
+}
+
+/// The refusal of a mesh text by its first fault.
+pub fn mesh_refusal(alloc: Global, kind: MeshKind, place: u64) -> Result<Vec<u8>, NoMemory>
+    ensures { IfOk result (λ text. text.items ≡ mesh_line kind place) }
+{
+    let mut out = b"refused mesh ".to_vec(alloc)?;
+    put_text(alloc, &mut out, kind.name().as_bytes())?;
+    put_text(alloc, &mut out, b" ")?;
+    put_count(alloc, &mut out, place)?;
+    put_text(alloc, &mut out, b"\n")?;
+    Ok(out)
+}

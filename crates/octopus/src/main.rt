@@ -1,0 +1,53 @@
+//! Answers questions about a mesh file.
+#![tactic(auto)]
+
+mod block;
+mod deliver;
+mod early;
+mod generate;
+mod intake;
+mod lines;
+mod mesh_file;
+mod plain;
+mod scan;
+mod status;
+mod surface;
+mod words;
+
+use crate::plain::plain;
+use crate::status::Status;
+use oct_edge::{DiskFolder, StdSink};
+use std::process::ExitCode;
+use std::{env, io};
+
+/// The words after the program's name.
+fn words_of(rt: &HostRuntime) -> io::Result<Vec<String>> {
+    let mut words = Vec::new(rt.alloc());
+    for word in env::args(rt)?.skip(1) {
+        words.push(word)?;
+    }
+    Ok(words)
+}
+
+/// The status for words that could not be taken: some aren't text, or there was no memory.
+fn without_words(rt: &HostRuntime, why: io::ErrorKind) -> Status {
+    if why == io::ErrorKind::OutOfMemory {
+        return Status::Memory;
+    }
+    let mut folder = DiskFolder::new(rt);
+    plain(rt.alloc(), &[], &mut folder, &mut StdSink::new(rt))
+}
+
+fn main(rt: HostRuntime) -> ExitCode {
+    let status = match words_of(&rt) {
+        Ok(words) => {
+            let mut folder = DiskFolder::new(&rt);
+            plain(rt.alloc(), &words, &mut folder, &mut StdSink::new(&rt))
+        }
+        Err(error) => without_words(&rt, error.kind()),
+    };
+    ExitCode::from(status.code())
+}
+
+#[cfg(test)]
+mod tests;

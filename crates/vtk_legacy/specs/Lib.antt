@@ -1,0 +1,10 @@
+pub mod Words
+pub mod Version
+pub mod Readings
+pub mod MeshText
+pub mod Kinds
+pub mod Outcome
+pub mod Kept
+pub mod Reader
+pub mod Machine
+pub mod Written

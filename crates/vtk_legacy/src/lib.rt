@@ -1,0 +1,32 @@
+//! The mesh text of the VTK legacy format.
+#![tactic(auto)]
+
+mod blocks;
+mod cells;
+mod coordinate;
+mod fault;
+mod gathered;
+mod laws;
+mod lines;
+mod offsets;
+mod points;
+mod reader;
+mod stage;
+mod steps;
+mod types;
+mod values;
+mod version;
+mod words;
+mod writer;
+mod writer_laws;
+
+pub use fault::{MeshFault, MeshKind};
+pub use laws::{texts_have_one_outcome, texts_have_valid_meshes};
+pub use reader::{MeshReader, read_mesh};
+pub use writer::write_mesh;
+pub use writer_laws::{written_is_read, written_meshes_are_whole};
+
+#[cfg(test)]
+mod tests;
+#[cfg(test)]
+mod writer_tests;

@@ -1,0 +1,477 @@
+ghost use Rattle.std.specs.Prelude.{◌≡◌, ◌≤◌, length};
+
+use super::*;
+use mesh_base::Mesh;
+use std::alloc::{AllocError, Global};
+use std::test::*;
+
+/// The lines of a mesh of one tetrahedron.
+const LINES: [&[u8]; 13] = [
+    b"# vtk DataFile Version 3.0\n",
+    b"one\n",
+    b"ASCII\n",
+    b"DATASET UNSTRUCTURED_GRID\n",
+    b"POINTS 4 int\n",
+    b"0 0 0\n",
+    b"4 0 0\n",
+    b"0 4 0\n",
+    b"0 0 4\n",
+    b"CELLS 1 5\n",
+    b"4 0 1 2 3\n",
+    b"CELL_TYPES 1\n",
+    b"10\n",
+];
+
+/// The lines from `from` up to `to`, with this text in their place.
+fn changed(alloc: Global, from: usize, to: usize, text: &[u8]) -> Result<Vec<u8>, AllocError> {
+    let mut all = Vec::new(alloc);
+    for (i, line) in LINES.iter().enumerate() {
+        if i == from {
+            all.extend_from_slice(text)?;
+        }
+        if i < from || i >= to {
+            all.extend_from_slice(line)?;
+        }
+    }
+    if from >= LINES.len() {
+        all.extend_from_slice(text)?;
+    }
+    Ok(all)
+}
+
+fn in_two(alloc: Global, text: &[u8], cut: usize) -> Result<Mesh, MeshFault>
+    requires { cut ≤ length text.now }
+{
+    let mut reader = MeshReader::new(alloc);
+    let _ = reader.feed(alloc, &text[..cut]);
+    let _ = reader.feed(alloc, &text[cut..]);
+    reader.finish(alloc)
+}
+
+fn byte_by_byte(alloc: Global, text: &[u8]) -> Result<Mesh, MeshFault> {
+    let mut reader = MeshReader::new(alloc);
+    for i in 0..text.len() {
+        reader.feed(alloc, &text[i..i + 1])?;
+    }
+    reader.finish(alloc)
+}
+
+/// Whether the two say the same.
+fn agree(a: &Result<Mesh, MeshFault>, b: &Result<Mesh, MeshFault>) -> bool {
+    match (a, b) {
+        (Ok(a), Ok(b)) => a.points() == b.points() && a.cells() == b.cells(),
+        (Err(a), Err(b)) => a == b,
+        _ => false,
+    }
+}
+
+/// Whether each way of cutting the text in two gives the same.
+fn same_for_cuts(alloc: Global, text: &[u8]) -> bool {
+    let whole = read_mesh(alloc, text);
+    for cut in 0..text.len() {
+        if !agree(&whole, &in_two(alloc, text, cut)) {
+            return false;
+        }
+    }
+    agree(&whole, &byte_by_byte(alloc, text))
+}
+
+/// Whether the text has this fault, also where it is cut in two.
+fn has_fault(alloc: Global, text: &[u8], kind: MeshKind, place: u64) -> bool {
+    let outcome = read_mesh(alloc, text);
+    matches!(&outcome, Err(MeshFault::Bad { kind: k, place: p }) if *k == kind && *p == place)
+        && same_for_cuts(alloc, text)
+}
+
+/// Whether the text has a mesh with so many points and cells, also where it is cut in two.
+fn has_mesh(alloc: Global, text: &[u8], points: usize, cells: usize) -> bool {
+    let outcome = read_mesh(alloc, text);
+    matches!(&outcome, Ok(mesh) if mesh.points().len() == points && mesh.cells().len() == cells)
+        && same_for_cuts(alloc, text)
+}
+
+/// Whether these are the points and cells.
+fn consists_of(
+    outcome: &Result<Mesh, MeshFault>,
+    points: &[(i32, i32, i32)],
+    cells: &[[u32; 4]],
+) -> bool {
+    match outcome {
+        Ok(mesh) => {
+            mesh.points()
+                .iter()
+                .map(|p| (p.x(), p.y(), p.z()))
+                .eq(points.iter().copied())
+                && mesh
+                    .cells()
+                    .iter()
+                    .flatten()
+                    .map(|c| c.corners())
+                    .eq(cells.iter().copied())
+        }
+        Err(_) => false,
+    }
+}
+
+type Fault<'a> = (usize, usize, &'a [u8], MeshKind, u64);
+
+#[test]
+fn one_change(rt: HostRuntime) -> Result<(), Fail> {
+    let alloc = rt.alloc();
+    let faults: [Fault; 32] = [
+        (0, 1, b"# VTK DataFile Version 3.0\n", MeshKind::Magic, 0),
+        (0, 1, b"# vtk DataFile Version 6.0\n", MeshKind::Version, 23),
+        (
+            0,
+            1,
+            b"# vtk DataFile Version 5.10\n",
+            MeshKind::Version,
+            23,
+        ),
+        (
+            0,
+            1,
+            b"# vtk DataFile Version 4.2345\n",
+            MeshKind::Version,
+            23,
+        ),
+        (2, 3, b"BINARY\n", MeshKind::Binary, 31),
+        (2, 3, b"text\n", MeshKind::Format, 31),
+        (3, 4, b"DATASET POLYDATA\n", MeshKind::DataSet, 45),
+        (4, 5, b"POINTS 1000000 int\n", MeshKind::Number, 106),
+        (4, 5, b"POINTS 1000001 int\n", MeshKind::Count, 70),
+        (4, 4, b"FIELD f 4294967295\n", MeshKind::Number, 91),
+        (
+            4,
+            4,
+            b"FIELD f 1\na 4294967295 4294967295 int\n",
+            MeshKind::Truncated,
+            174,
+        ),
+        (6, 7, b"4 0.5 0\n", MeshKind::NotWhole, 84),
+        (6, 7, b"4 1e-999 0\n", MeshKind::NotWhole, 84),
+        (
+            6,
+            7,
+            b"4 99999999999999999999.5 0\n",
+            MeshKind::NotWhole,
+            84,
+        ),
+        (6, 7, b"4 1073741825 0\n", MeshKind::Range, 84),
+        (
+            6,
+            7,
+            b"4 1e99999999999999999999999999999999999999 0\n",
+            MeshKind::Range,
+            84,
+        ),
+        (6, 7, b"4 nan 0\n", MeshKind::Number, 84),
+        (9, 10, b"CELLS 1 6\n", MeshKind::Size, 108),
+        (9, 10, b"CELLS 1 4\n", MeshKind::Size, 110),
+        (9, 10, b"CELLS 0 1\n", MeshKind::Size, 108),
+        (9, 10, b"CELLS 1 4294967295\n", MeshKind::Size, 108),
+        (9, 10, b"CELLS 4000000 4\n", MeshKind::Size, 116),
+        (9, 10, b"CELLS 4000000 5\n", MeshKind::Number, 126),
+        (10, 11, b"4294967295 0 1 2 3\n", MeshKind::Size, 110),
+        (10, 11, b"4294967296 0 1 2 3\n", MeshKind::Count, 110),
+        (10, 11, b"4 0 1 2 4\n", MeshKind::Index, 118),
+        (
+            10,
+            11,
+            b"4 0 1 2 9999999999999999999999999999999999999999\n",
+            MeshKind::Index,
+            118,
+        ),
+        (10, 11, b"4 0 1 2 2\n", MeshKind::SameVertex, 133),
+        (11, 12, b"CELL_TYPES 2\n", MeshKind::Count, 131),
+        (12, 13, b"12\n", MeshKind::CellType, 133),
+        (12, 13, b"5\n", MeshKind::CellSize, 133),
+        (13, 13, b"SCALARS\n", MeshKind::Keyword, 136),
+    ];
+    for (from, to, lines, kind, place) in faults {
+        let text = changed(alloc, from, to, lines)?;
+        assert!(rt;
+            has_fault(alloc, &text, kind, place),
+            "lines {from} to {to}, at {place}"
+        );
+    }
+    Ok(())
+}
+
+#[test]
+fn other_spellings(rt: HostRuntime) -> Result<(), Fail> {
+    let alloc = rt.alloc();
+    let one = read_mesh(alloc, &changed(alloc, 0, 0, b"")?);
+    let changes: [(usize, usize, &[u8]); 8] = [
+        (0, 1, b"# vtk DataFile Version 004.000 \t\r\n"),
+        (4, 7, b"POINTS 4 float\n0.0 -0 0e5\n4e0 +0 0.\n"),
+        (
+            6,
+            7,
+            b"4 0e99999999999999999999999999999999999999 -000000000000000000000000000000000000000\n",
+        ),
+        (
+            9,
+            13,
+            b"CELLS 3 11\n0\n4 0 1 2 3\n4 0 1 2 2 CELL_TYPES 3 7 10 9",
+        ),
+        (13, 13, b"METADATA"),
+        (
+            13,
+            13,
+            b"METADATA\nINFORMATION 0\nSCALARS\n \x0b\r\ncell_data 1",
+        ),
+        (13, 13, b"FIELD FIELD 2 a 1 0 vtk b 2 1 VTKx METADATA CELLS"),
+        (
+            2,
+            5,
+            b"ascii\tDataSet\x0bunstructured_grid\x0cpoints 4 unsigned_char ",
+        ),
+    ];
+    for (from, to, lines) in changes {
+        let text = changed(alloc, from, to, lines)?;
+        assert!(rt;
+            agree(&one, &read_mesh(alloc, &text)),
+            "lines {from} to {to}"
+        );
+        assert!(rt; same_for_cuts(alloc, &text), "lines {from} to {to}");
+    }
+    let points = [(0, 0, 0), (4, 0, 0), (0, 4, 0), (0, 0, 4)];
+    assert!(rt; consists_of(&one, &points, &[[0, 1, 2, 3]]));
+    Ok(())
+}
+
+#[test]
+fn prefixes(rt: HostRuntime) -> Result<(), Fail> {
+    let alloc = rt.alloc();
+    let text = changed(alloc, 0, 0, b"")?;
+    assert_eq!(rt; text.len(), 136);
+    for end in 0..text.len() {
+        assert_eq!(rt;
+            read_mesh(alloc, &text[..end]).is_ok(),
+            end == 135,
+            "at {end}"
+        );
+    }
+    let faults = [
+        (0, MeshKind::Truncated, 0),
+        (26, MeshKind::Truncated, 26),
+        (34, MeshKind::Format, 31),
+        (71, MeshKind::Truncated, 71),
+        (104, MeshKind::Keyword, 100),
+        (105, MeshKind::Truncated, 105),
+        (119, MeshKind::Truncated, 119),
+        (125, MeshKind::Keyword, 120),
+        (133, MeshKind::Truncated, 133),
+        (134, MeshKind::CellSize, 133),
+    ];
+    for (end, kind, place) in faults {
+        assert!(rt; has_fault(alloc, &text[..end], kind, place), "at {end}");
+    }
+    Ok(())
+}
+
+#[test]
+fn long_lines(rt: HostRuntime) -> Result<(), Fail> {
+    let alloc = rt.alloc();
+    let long = vec![in alloc; b'x'; 258]?;
+    assert!(rt; has_fault(alloc, &long[..1], MeshKind::Truncated, 1));
+    assert!(rt; has_fault(alloc, &long[..257], MeshKind::Truncated, 257));
+    assert!(rt; has_fault(alloc, &long, MeshKind::Magic, 0));
+    let mut title = long[..256].to_vec(alloc)?;
+    title.extend_from_slice(b"\r\n")?;
+    assert!(rt; has_mesh(alloc, &changed(alloc, 1, 2, &title)?, 4, 1));
+    let mut title = long[..257].to_vec(alloc)?;
+    title.extend_from_slice(b"\n")?;
+    assert!(rt; has_fault(alloc, &changed(alloc, 1, 2, &title)?, MeshKind::Title, 27));
+    Ok(())
+}
+
+/// A text as another program may write it, with each line ended by CR LF.
+const REALISTIC: [&[u8]; 23] = [
+    b"# vtk DataFile Version 4.2",
+    b"Tissue block, step 0",
+    b"ASCII",
+    b"DATASET UNSTRUCTURED_GRID",
+    b"FIELD FieldData 1",
+    b"TIME 1 1 double",
+    b"0.25",
+    b"POINTS 5 double",
+    b"0 0 0 10.0 0 0 0 1e1 0",
+    b"0 0 10 10 10 10",
+    b"METADATA",
+    b"INFORMATION 0",
+    b"",
+    b"CELLS 4 18",
+    b"3 0 1 2",
+    b"3 0 1 3",
+    b"4 0 1 2 3",
+    b"4 1 2 3 4",
+    b"CELL_TYPES 4",
+    b"5\r\n5\r\n10\r\n10",
+    b"POINT_DATA 5",
+    b"SCALARS pressure float 1\r\nLOOKUP_TABLE default",
+    b"0.5 0.5 0.5 0.5 0.5",
+];
+
+#[test]
+fn realistic(rt: HostRuntime) -> Result<(), Fail> {
+    let alloc = rt.alloc();
+    let mut text = Vec::new(alloc);
+    let mut types_end = 0;
+    let mut attributes = 0;
+    for (i, line) in REALISTIC.iter().enumerate() {
+        text.extend_from_slice(line)?;
+        if i == 19 {
+            types_end = text.len();
+        }
+        if i == 20 {
+            attributes = text.len() - 2;
+        }
+        text.extend_from_slice(b"\r\n")?;
+    }
+    let mesh = read_mesh(alloc, &text);
+    let points = [(0, 0, 0), (10, 0, 0), (0, 10, 0), (0, 0, 10), (10, 10, 10)];
+    assert!(rt; consists_of(&mesh, &points, &[[0, 1, 2, 3], [1, 2, 3, 4]]));
+    assert!(rt; same_for_cuts(alloc, &text));
+    for end in 0..text.len() {
+        let accepted = end >= attributes || end >= types_end && end <= types_end + 2;
+        assert_eq!(rt;
+            read_mesh(alloc, &text[..end]).is_ok(),
+            accepted,
+            "at {end}"
+        );
+    }
+    Ok(())
+}
+
+/// The text with another version and cells.
+fn with_cells(alloc: Global, version: &[u8], cells: &[u8]) -> Result<Vec<u8>, AllocError> {
+    let mut text = b"# vtk DataFile Version ".to_vec(alloc)?;
+    text.extend_from_slice(version)?;
+    text.extend_from_slice(b"\n")?;
+    for line in &LINES[1..9] {
+        text.extend_from_slice(line)?;
+    }
+    text.extend_from_slice(cells)?;
+    Ok(text)
+}
+
+#[test]
+fn offsets(rt: HostRuntime) -> Result<(), Fail> {
+    let alloc = rt.alloc();
+    let faults: [(&[u8], &[u8], MeshKind, u64); 15] = [
+        (
+            b"5.1",
+            b"CELLS 2 4\nOFFSETS vtktypeint64\n0 3\n",
+            MeshKind::Size,
+            133,
+        ),
+        (
+            b"5.1",
+            b"CELLS 2 4\nOFFSETS vtktypeint64\n1 4\n",
+            MeshKind::Size,
+            131,
+        ),
+        (
+            b"5.1",
+            b"CELLS 4 4\nOFFSETS vtktypeint64\n0 3 2 4\n",
+            MeshKind::Size,
+            135,
+        ),
+        (
+            b"5.1",
+            b"CELLS 3 4\nOFFSETS vtktypeint64\n0 5 4\n",
+            MeshKind::Size,
+            133,
+        ),
+        (
+            b"5.1",
+            b"CELLS 1 4\nOFFSETS vtktypeint64\n0\n",
+            MeshKind::Size,
+            131,
+        ),
+        (
+            b"5.1",
+            b"CELLS 2 4\nOFFSETS vtktypeint64\n0 4294967296\n",
+            MeshKind::Count,
+            133,
+        ),
+        (b"5.1", b"CELLS 4000002 4\n", MeshKind::Count, 106),
+        (b"5.1", b"CELLS 0 1\n", MeshKind::Size, 108),
+        (
+            b"5.1",
+            b"CELLS 0 0\nMETADATA\n\nOFFSETS int\n",
+            MeshKind::Keyword,
+            120,
+        ),
+        (
+            b"5.1",
+            b"CELLS 2 4\nOFSETS vtktypeint64\n",
+            MeshKind::Keyword,
+            110,
+        ),
+        (b"5.1", b"CELLS 1 5\n4 0 1 2 3\n", MeshKind::Keyword, 110),
+        (
+            b"5.0",
+            b"CELLS 2 4\nOFFSETS vtktypeint64\n",
+            MeshKind::Version,
+            23,
+        ),
+        (
+            b"3.0",
+            b"CELLS 2 4\nOFFSETS vtktypeint64\n",
+            MeshKind::Number,
+            110,
+        ),
+        (
+            b"5.1",
+            b"CELLS 2 4\nOFFSETS vtktypeint64\n0 4\nCONNECTIVITY vtktypeint64\n0 1 2 4\n",
+            MeshKind::Index,
+            167,
+        ),
+        (
+            b"5.1",
+            b"CELLS 2 4\nOFFSETS vtktypeint64\n0 4\nCONNECTIVITY vtktypeint64\n0 1 2 2\nCELL_TYPES 1\n10\n",
+            MeshKind::SameVertex,
+            182,
+        ),
+    ];
+    for (version, cells, kind, place) in faults {
+        let text = with_cells(alloc, version, cells)?;
+        assert!(rt; has_fault(alloc, &text, kind, place), "at {place}");
+    }
+    let meshes: [(&[u8], &[u8], usize); 6] = [
+        (
+            b"5.1",
+            b"CELLS 2 4\nOFFSETS vtktypeint64\n0 4\nCONNECTIVITY vtktypeint64\n0 1 2 3\nCELL_TYPES 1\n10\n",
+            1,
+        ),
+        (
+            b"005.001",
+            b"CELLS 2 4\nOFFSETS int\n0 4\nMETADATA\n\nCONNECTIVITY int\n0 1 2 3\nCELL_TYPES 1\n10\n",
+            1,
+        ),
+        (
+            b"5.1",
+            b"CELLS 7 12\nOFFSETS int\n0 0 4 4 4 8 12\nCONNECTIVITY int\n0 1 2 3 3 2 1 0 1 0 2 3\nCELL_TYPES 6\n7 10 2 4 10 9\n",
+            2,
+        ),
+        (b"5.1", b"CELLS 0 0\nCELL_TYPES 0\n", 0),
+        (
+            b"5.1",
+            b"CELLS 0 0\noffsets int\nCONNECTIVITY int\nCELL_TYPES 0\n",
+            0,
+        ),
+        (
+            b"5.1",
+            b"CELLS 1 0\nOFFSETS vtktypeint64\n0\nCONNECTIVITY vtktypeint64\nCELL_TYPES 0\n",
+            0,
+        ),
+    ];
+    for (version, cells, count) in meshes {
+        let text = with_cells(alloc, version, cells)?;
+        assert!(rt; has_mesh(alloc, &text, 4, count), "with {count} cells");
+    }
+    Ok(())
+}
