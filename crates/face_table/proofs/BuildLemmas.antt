@@ -59,8 +59,8 @@ vertex_within n (Some c ∷ cells) v a h = by (has_corner c v) refl h (vertex_wi
     by true q h rest = corner_within n c v (All-head (λ cell. IfSome cell (IsWithin n)) (Some c) cells a) q
     by false q h rest = rest h
 
-pub face_within : (n : ℕ) (cells : List (Option Corners)) (f : Face) → AreWithin n cells → 0 < face_count cells f → f.2 < n
-face_within n cells f a lt = vertex_within n cells f.2 a (face_vertex cells f f.2 own lt)
-  where
-    own : is_on f f.2 ≡ true
-    own = grind (arith, nat_tests)
+pub face_within : (n : ℕ) (cells : List (Option Corners)) (f : Face) (v : ℕ) → AreWithin n cells → 0 < face_count cells f → is_on f v ≡ true → v < n
+face_within n cells f v a lt on = vertex_within n cells v a (face_vertex cells f v on lt)
+
+pub last_on : (f : Face) → is_on f f.2 ≡ true
+last_on f = grind (arith, nat_tests)

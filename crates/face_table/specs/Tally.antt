@@ -26,6 +26,10 @@ single_count counts v = sum_by (single_share v) counts
 abbrev pub AreSingles : Counts → List ℕ → Type 0
 AreSingles counts singles = (v : ℕ) → slice_index singles v ≡ single_count counts v
 
+-- each number of a counted face is below n
+abbrev pub AreFacesBelow : ℕ → Counts → Type 0
+AreFacesBelow n counts = (f : Face) (v : ℕ) → 0 < tally_in counts f → is_on f v ≡ true → v < n
+
 -- an ascending list of numbers below n, with room for n of them
 pub record IsBelow (n : ℕ) (surface : Vec ℕ Global) : Type 0 where
   pub ascending : IsStrictlyIncreasing surface.items
@@ -48,9 +52,10 @@ tally_of table f = tally_in table.counts f
 abbrev pub IsOnSurface : Tally → ℕ → Type 0
 IsOnSurface table v = (v < table.points) × ((f : Face) × (is_on f v ≡ true) × (tally_of table f ≡ 1))
 
--- the table's lists agree with its counts
+-- the table's lists agree with its counts, and the counted faces have no numbers but those of points
 pub record IsFaceTable (counts : Counts) (singles : List ℕ) (surface : Vec ℕ Global) : Type 0 where
   pub exact : AreSingles counts singles
+  pub within : AreFacesBelow (length singles) counts
   pub below : IsBelow (length singles) surface
   pub all : (w : ℕ) → Matches singles surface.items w
 

@@ -86,7 +86,6 @@ impl FaceTable {
     /// Counts the faces of a live cell no more. It costs what `put_cell` does and takes no memory.
     pub fn take_cell(&mut self, cell: Cell)
         requires there { HasCell self.old cell }
-        requires within { IsWithin self.old.points cell }
         ensures points { self.new.points ≡ self.old.points }
         ensures tally { (f : PlainFace) → tally_of self.new f + count_by (λ g. face_eq g f) (faces cell) ≡ tally_of self.old f }
         ensures cells { (cells : List (Option Corners)) (i : ℕ) → IsTallyOf cells self.old → cell_at cells i ≡ Some cell → IsTallyOf (slice_set cells i None) self.new }

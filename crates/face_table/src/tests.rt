@@ -62,19 +62,13 @@ fn live_cell(cells: &[Option<Cell>], i: usize) -> Option<Cell>
 }
 
 // Makes cell i absent, and takes it out of the table.
-fn remove(
-    table: &mut FaceTable,
-    points: u32,
-    cells: &mut Vec<Option<Cell>>,
-    i: usize,
-) -> Result<Cell, Fail>
-    requires points { table.old.points ≡ points }
-    requires cells { IsTallyOf cells.old.items table.old }
+fn remove(table: &mut FaceTable, cells: &mut Vec<Option<Cell>>, i: usize) -> Result<Cell, Fail>
+    requires { IsTallyOf cells.old.items table.old }
     ensures points { table.new.points ≡ table.old.points }
     ensures cells { IsTallyOf cells.new.items table.new }
 {
     match live_cell(cells, i) {
-        Some(cell) if i < cells.len() && is_within(&cell, points) => {
+        Some(cell) if i < cells.len() => {
             table.take_cell(cell);
             cells[i] = None;
             Ok(cell)
@@ -98,7 +92,7 @@ fn split(
 {
     let points = point.checked_add(1).ok_or("points")?;
     table.put_point(alloc)?;
-    let [a, b, c, d] = remove(table, points, cells, i)?.corners();
+    let [a, b, c, d] = remove(table, cells, i)?.corners();
     append(alloc, table, points, cells, [point, b, c, d])?;
     append(alloc, table, points, cells, [a, point, c, d])?;
     append(alloc, table, points, cells, [a, b, point, d])?;
@@ -158,19 +152,13 @@ fn fill(
 }
 
 // Takes out cells.
-fn clear(
-    table: &mut FaceTable,
-    points: u32,
-    cells: &mut Vec<Option<Cell>>,
-    places: &[usize],
-) -> Result<(), Fail>
-    requires points { table.old.points ≡ points }
-    requires cells { IsTallyOf cells.old.items table.old }
+fn clear(table: &mut FaceTable, cells: &mut Vec<Option<Cell>>, places: &[usize]) -> Result<(), Fail>
+    requires { IsTallyOf cells.old.items table.old }
     ensures points { table.new.points ≡ table.old.points }
     ensures cells { IsTallyOf cells.new.items table.new }
 {
     for i in places {
-        remove(table, points, cells, *i)?;
+        remove(table, cells, *i)?;
     }
     Ok(())
 }
@@ -218,7 +206,7 @@ fn check_case(alloc: Global, case: &Case) -> Result<(), Fail> {
     let mut table = bare(alloc, case.points)?;
     let mut cells = Vec::new(alloc);
     fill(alloc, &mut table, case.points, &mut cells, case.put)?;
-    clear(&mut table, case.points, &mut cells, case.taken)?;
+    clear(&mut table, &mut cells, case.taken)?;
     if table.surface() != case.surface {
         return Err(Fail::new(format_args!("surface {:?}", table.surface())));
     }

@@ -29,4 +29,6 @@ pub use writer_laws::{written_is_read, written_meshes_are_whole};
 #[cfg(test)]
 mod tests;
 #[cfg(test)]
+mod texts;
+#[cfg(test)]
 mod writer_tests;

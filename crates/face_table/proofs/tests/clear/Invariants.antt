@@ -3,4 +3,4 @@ use Rattle.face_table.specs.Tally.{IsTallyOf}
 use Rattle.face_table.proofs.tests.clear.Given as goal
 
 abbrev pub invariant-loop-i : goal.invariant-loop-i
-invariant-loop-i l = (l.table.points ≡ l.points) × IsTallyOf l.cells.items l.table
+invariant-loop-i l = (l.table.points ≡ l.fn.table.points) × IsTallyOf l.cells.items l.table

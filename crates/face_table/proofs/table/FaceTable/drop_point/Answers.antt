@@ -14,7 +14,7 @@ invariant_of-self c =
     let e : c.args.self.now.points - 1 ≡ n = omega (arith, p, c.len-count.ensures, c.requires.some) in
     let free = λ (f : Face) (on : is_on f n ≡ true). ap (λ t. tally_of t f) c.self.view_is ∙ t.1 f ∙ face_count-free t.0 f (c.args.self.now.points - 1) t.2 (ap (is_on f) e ∙ on) in
     without_point counts c.self.inside.singles.items c.truncate.new.self.items c.self.inside.surface n (omega (arith, p, c.len-count.ensures, c.requires.some)) c.truncate.ensures.items
-    (none_single counts n c.len-len.ensures.unique free) c.self.invariant
+    free (none_single counts n c.len-len.ensures.unique free) c.self.invariant
 
 pub returns-clause-cells : goal.returns-clause-cells
 returns-clause-cells c cells h f = ap (λ t. tally_of t f) c.self.view_is ∙ h f

@@ -1,0 +1,11 @@
+pub mod Kinds
+pub mod Rows
+pub mod ScriptText
+pub mod Reads
+pub mod Outcome
+pub mod Reading
+pub mod Scripts
+pub mod Printed
+pub mod Jobs
+pub mod Checking
+pub mod Turns

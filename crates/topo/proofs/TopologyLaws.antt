@@ -1,0 +1,225 @@
+-- lemmas on topologies, and on the lists of cells of which tables are those
+use Rattle.std.proofs.Common.{◌≡◌, ℕ, zero, suc, ◌+◌, ◌-◌, ◌<◌, ◌≤◌, Bool, true, false, eqb, not, List, [], ◌∷◌, ◌++◌, length, get_or, set, take, filter, count_by, sum_by, flat_map, drop, pos, ◌↔◌, Option, Some, None, IfSome, IsTrue, option_and_then, refl, sym, ap, subst, ◌∙◌, arith, length-append}
+use Rattle.std.proofs.lemmas.List.{length-set, length-take, length-replicate, take-append-le, drop-take, take_all, get_or_append_left, get_or-append-add}
+use Rattle.std.proofs.Math.ListN.{replicate}
+use Rattle.std.proofs.Math.Seq.{drop-append_seam}
+use Rattle.std.proofs.lemmas.Option.{slice_get-get_or}
+use Rattle.std.proofs.lemmas.List.Elements.{All-set, All-push, All-weaker, All-take}
+use Rattle.std.specs.List.{range_with_len}
+use Rattle.mesh_base.specs.Mesh.{MeshView, Corners, IsMesh, IsWithin, AreWithin, AreDifferent, AreAllDifferent, face_eq, faces, live, is_vertex, is_surface, are_neighbours, surface, neighbours}
+use Rattle.mesh_base.specs.Place.{Place}
+use Rattle.mesh_base.specs.Edit.{cell_at, EditFits}
+use Rattle.mesh_base.specs.declared.edit.Edit.{Edit}
+use Rattle.mesh_base.proofs.NumberLaws.{vertex_point, has_neighbours}
+use Rattle.face_table.specs.Tally.{Tally, IsTallyOf}
+use Rattle.edge_table.specs.Pairs.{RowView, IsPairsOf, pair_share}
+use Rattle.topo.specs.Topology.{Topology, IsTopologyOf, IsTopology, Fits}
+use Rattle.topo.specs.Tables.{AreTables, IsRowAt}
+
+-- what a topology says of each mesh that has it
+pub surface_of : (mesh : MeshView) (t : Topology) → IsTopologyOf mesh t → filter (is_surface t.cells) (range_with_len 0 t.points) ≡ surface mesh
+surface_of mesh t h = ap (λ cells. filter (is_surface cells) (range_with_len 0 t.points)) (sym h.1) ∙ ap (λ n. filter (is_surface mesh.cells) (range_with_len 0 n)) (sym h.0)
+
+pub neighbours_of : (mesh : MeshView) (t : Topology) (v : ℕ) → IsTopologyOf mesh t → filter (are_neighbours t.cells v) (range_with_len 0 t.points) ≡ neighbours mesh v
+neighbours_of mesh t v h = ap (λ cells. filter (are_neighbours cells v) (range_with_len 0 t.points)) (sym h.1) ∙ ap (λ n. filter (are_neighbours mesh.cells v) (range_with_len 0 n)) (sym h.0)
+
+pub mesh_of : (mesh : MeshView) (t : Topology) → IsTopologyOf mesh t → IsTopology t.points t.cells → IsMesh mesh.points mesh.cells
+mesh_of mesh t h valid = record {
+  few_points = omega (arith, h.0, valid.few_points);
+  few_cells = omega (arith, ap length h.1, valid.few_cells);
+  within = subst (λ n. AreWithin n mesh.cells) (sym h.0) (subst (AreWithin t.points) (sym h.1) valid.within);
+  different = subst AreAllDifferent (sym h.1) valid.different;
+}
+
+-- a number past the points is no vertex
+pub no_vertex : (n : ℕ) (cells : List (Option Corners)) → AreWithin n cells → is_vertex cells n ≡ false
+no_vertex n cells a = by (is_vertex cells n) refl
+  where
+    by : (b : Bool) → is_vertex cells n ≡ b → b ≡ false
+    by false e = refl
+    by true e = let lt = vertex_point n cells n a e in absurd (omega arith)
+
+-- the live cells are all that tables count
+pub tally-same : (a b : List (Option Corners)) (t : Tally) → live a ≡ live b → IsTallyOf a t → IsTallyOf b t
+tally-same a b t e h f = h f ∙ ap (λ l. count_by (λ g. face_eq g f) (flat_map faces l)) e
+
+pub pairs-same : (a b : List (Option Corners)) (t : List RowView) → live a ≡ live b → IsPairsOf a t → IsPairsOf b t
+pairs-same a b t e h v w = h v w ∙ ap (sum_by (λ c. pair_share c v w)) e
+
+-- an absent cell at the end counts for nothing
+pub live-pop : (cells : List (Option Corners)) (last : ℕ) → last + 1 ≡ length cells → live (set cells last None) ≡ live (take last cells)
+live-pop [] last e = absurd (omega arith)
+live-pop (x ∷ []) zero e = refl
+live-pop (x ∷ y ∷ cells) zero e = absurd (omega arith)
+live-pop (None ∷ cells) (suc last) e = live-pop cells last (omega arith)
+live-pop (Some c ∷ cells) (suc last) e = ap (λ l. c ∷ l) (live-pop cells last (omega arith))
+
+-- setting what is there changes nothing
+pub live-absent : (cells : List (Option Corners)) (last : ℕ) → last + 1 ≡ length cells → get_or cells last None ≡ None → live cells ≡ live (take last cells)
+live-absent [] last e none = absurd (omega arith)
+live-absent (None ∷ []) zero e none = refl
+live-absent (Some c ∷ []) zero e none = absurd (cc)
+live-absent (x ∷ y ∷ cells) zero e none = absurd (omega arith)
+live-absent (None ∷ cells) (suc last) e none = live-absent cells last (omega arith) none
+live-absent (Some c ∷ cells) (suc last) e none = ap (λ l. c ∷ l) (live-absent cells last (omega arith) none)
+
+-- what a topology keeps
+AreWithin-more : (m n : ℕ) (cells : List (Option Corners)) → m ≤ n → AreWithin m cells → AreWithin n cells
+AreWithin-more m n cells le a = All-weaker (λ cell. IfSome cell (IsWithin m)) (λ cell. IfSome cell (IsWithin n)) more cells a
+  where
+    more : (cell : Option Corners) → IfSome cell (IsWithin m) → IfSome cell (IsWithin n)
+    more None h = tt
+    more (Some c) h = (omega arith, omega arith, omega arith, omega arith)
+
+pub IsTopology-point : (n : ℕ) (cells : List (Option Corners)) → n < 1000000 → IsTopology n cells → IsTopology (n + 1) cells
+IsTopology-point n cells lt valid = record {
+  few_points = omega arith;
+  few_cells = valid.few_cells;
+  within = AreWithin-more n (n + 1) cells (omega arith) valid.within;
+  different = valid.different;
+}
+
+pub IsTopology-push : (n : ℕ) (cells : List (Option Corners)) (c : Corners) → length cells < 4000000 → IsWithin n c → AreDifferent c → IsTopology n cells → IsTopology n (cells ++ Some c ∷ [])
+IsTopology-push n cells c lt w d valid = record {
+  few_points = valid.few_points;
+  few_cells = omega (arith, length-append cells (Some c ∷ []));
+  within = All-push (λ cell. IfSome cell (IsWithin n)) cells (Some c) valid.within w;
+  different = All-push (λ cell. IfSome cell AreDifferent) cells (Some c) valid.different d;
+}
+
+pub IsTopology-remove : (n : ℕ) (cells : List (Option Corners)) (i : ℕ) → IsTopology n cells → IsTopology n (set cells i None)
+IsTopology-remove n cells i valid = record {
+  few_points = valid.few_points;
+  few_cells = omega (arith, length-set cells i None, valid.few_cells);
+  within = All-set (λ cell. IfSome cell (IsWithin n)) cells i None tt valid.within;
+  different = All-set (λ cell. IfSome cell AreDifferent) cells i None tt valid.different;
+}
+
+pub IsTopology-take : (n : ℕ) (cells : List (Option Corners)) (i : ℕ) → IsTopology n cells → IsTopology n (take i cells)
+IsTopology-take n cells i valid = record {
+  few_points = valid.few_points;
+  few_cells = omega (arith, length-take i cells, valid.few_cells);
+  within = All-take (λ cell. IfSome cell (IsWithin n)) i cells valid.within;
+  different = All-take (λ cell. IfSome cell AreDifferent) i cells valid.different;
+}
+
+pub IsTopology-fewer : (n : ℕ) (cells : List (Option Corners)) → AreWithin (n - 1) cells → IsTopology n cells → IsTopology (n - 1) cells
+IsTopology-fewer n cells within valid = record {
+  few_points = omega (arith, valid.few_points);
+  few_cells = valid.few_cells;
+  within = within;
+  different = valid.different;
+}
+
+-- tables see live cells alone
+pub AreTables-same : (n : ℕ) (a b : List (Option Corners)) (faces : Tally) (edges : List RowView) → live a ≡ live b → IsTopology n b → AreTables n a faces edges → AreTables n b faces edges
+AreTables-same n a b faces edges e valid h = record {
+  valid = valid;
+  tally = tally-same a b faces e h.tally;
+  pairs = pairs-same a b edges e h.pairs;
+  face_points = h.face_points;
+  edge_points = h.edge_points;
+}
+
+pub cell_at-index : (cells : List (Option Corners)) (i : ℕ) (o : Option Corners) → i < length cells → o ≡ get_or cells i o → cell_at cells i ≡ o
+cell_at-index cells i o lt e = ap (option_and_then (λ cell. cell)) (slice_get-get_or cells i o lt) ∙ sym e
+
+pub cell_at-push : (cells : List (Option Corners)) (c : Corners) → cell_at (cells ++ Some c ∷ []) (length cells) ≡ Some c
+cell_at-push [] c = refl
+cell_at-push (d ∷ cells) c = cell_at-push cells c
+
+-- there is a mesh with each topology
+origin : Place
+origin = (pos 0, pos 0, pos 0)
+
+mesh_with : Topology → MeshView
+mesh_with t = record { points = replicate t.points origin; cells = t.cells }
+
+has_mesh : (t : Topology) → IsTopologyOf (mesh_with t) t
+unfolding mesh_with
+has_mesh t = (length-replicate t.points origin, refl)
+
+pub fits_one : (t : Topology) (edit : Edit) (b : Bool) → ((mesh : MeshView) → IsTopologyOf mesh t → IsTrue b ↔ EditFits mesh edit) → IsTrue b ↔ Fits t edit
+fits_one t edit b each = (
+  λ h. (mesh_with t, has_mesh t, (each (mesh_with t) (has_mesh t)).0 h),
+  λ fits. (each fits.0 fits.1).1 fits.2,
+)
+
+-- a part of a list stays as it is while the list grows
+part-append : (a b : ℕ) (xs ys : List ℕ) → a ≤ b → b ≤ length xs → take (b - a) (drop a (xs ++ ys)) ≡ take (b - a) (drop a xs)
+part-append a b xs ys le h = sym (drop-take a (b - a) (xs ++ ys)) ∙ ap (drop a) (take-append-le (a + (b - a)) xs ys (omega arith)) ∙ drop-take a (b - a) xs
+
+pub row-kept : (starts near more row : List ℕ) (v u e : ℕ) → length starts ≡ v + 1 → u < v → IsRowAt starts near u row → IsRowAt (starts ++ e ∷ []) (near ++ more) u row
+row-kept starts near more row v u e len lt h =
+    let a = get_or_append_left starts (e ∷ []) 0 u (omega arith) in
+    let b = get_or_append_left starts (e ∷ []) 0 (u + 1) (omega arith) in
+    record {
+      ordered = omega (arith, a, b, h.ordered);
+      ends = omega (arith, b, h.ends, length-append near more);
+      part = rw (a, b) (part-append (get_or starts u 0) (get_or starts (u + 1) 0) near more h.ordered h.ends ∙ h.part);
+    }
+
+pub row-new : (starts near more : List ℕ) (v e : ℕ) → length starts ≡ v + 1 → get_or starts v 0 ≡ length near → e ≡ length (near ++ more) → IsRowAt (starts ++ e ∷ []) (near ++ more) v more
+row-new starts near more v e len from to =
+    let a : get_or (starts ++ e ∷ []) v 0 ≡ length near = get_or_append_left starts (e ∷ []) 0 v (omega arith) ∙ from in
+    let i : v + 1 ≡ length starts + 0 = omega arith in
+    let b : get_or (starts ++ e ∷ []) (v + 1) 0 ≡ e = ap (λ k. get_or (starts ++ e ∷ []) k 0) i ∙ get_or-append-add starts (e ∷ []) 0 0 in
+    let l = length-append near more in
+    let n : length more ≤ e - length near = omega arith in
+    record {
+      ordered = omega (arith, a, b, l, to);
+      ends = omega (arith, b, to);
+      part = rw (a, b, drop-append_seam near more) (take_all (e - length near) more n);
+    }
+
+pub start-new : (starts : List ℕ) (v e : ℕ) → length starts ≡ v + 1 → get_or (starts ++ e ∷ []) (v + 1) 0 ≡ e
+start-new starts v e len =
+    let i : v + 1 ≡ length starts + 0 = omega arith in
+    ap (λ k. get_or (starts ++ e ∷ []) k 0) i ∙ get_or-append-add starts (e ∷ []) 0 0
+
+-- both tables after each step
+module _ (n : ℕ) (cells : List (Option Corners)) (faces newer_faces : Tally) (edges newer_edges : List RowView) (tables : AreTables n cells faces edges) where
+  pub AreTables-remove : (i : ℕ) → IsTallyOf (set cells i None) newer_faces → IsPairsOf (set cells i None) newer_edges → newer_faces.points ≡ faces.points → length newer_edges ≡ length edges → AreTables n (set cells i None) newer_faces newer_edges
+  AreTables-remove i t p fp ep = record {
+    valid = IsTopology-remove n cells i tables.valid;
+    tally = t;
+    pairs = p;
+    face_points = fp ∙ tables.face_points;
+    edge_points = ep ∙ tables.edge_points;
+  }
+
+  pub AreTables-push : (c : Corners) → length cells < 4000000 → IsWithin n c → AreDifferent c → IsTallyOf (cells ++ Some c ∷ []) newer_faces → IsPairsOf (cells ++ Some c ∷ []) newer_edges → newer_faces.points ≡ faces.points → length newer_edges ≡ length edges → AreTables n (cells ++ Some c ∷ []) newer_faces newer_edges
+  AreTables-push c few w d t p fp ep = record {
+    valid = IsTopology-push n cells c few w d tables.valid;
+    tally = t;
+    pairs = p;
+    face_points = fp ∙ tables.face_points;
+    edge_points = ep ∙ tables.edge_points;
+  }
+
+-- the table of faces, after a put and a take of the last cell, is that of the cells before
+pub tally-back : (cells : List (Option Corners)) (c : Corners) (t : Tally) → IsTallyOf (set (cells ++ Some c ∷ []) (length cells) None) t → IsTallyOf cells t
+tally-back cells c t h = tally-same (set (cells ++ Some c ∷ []) (length cells) None) cells t (back cells) h
+  where
+    back : (cells : List (Option Corners)) → live (set (cells ++ Some c ∷ []) (length cells) None) ≡ live cells
+    back [] = refl
+    back (None ∷ cells) = back cells
+    back (Some d ∷ cells) = ap (λ l. d ∷ l) (back cells)
+
+-- cells that come at the end leave the one at i as it is
+pub cell_at-append : (xs ys : List (Option Corners)) (i : ℕ) (c : Corners) → cell_at xs i ≡ Some c → cell_at (xs ++ ys) i ≡ Some c
+cell_at-append [] ys i c e = absurd (cc)
+cell_at-append (x ∷ xs) ys zero c e = e
+cell_at-append (x ∷ xs) ys (suc i) c e = cell_at-append xs ys i c e
+
+pub set-append : (xs ys : List (Option Corners)) (i : ℕ) (c : Corners) → cell_at xs i ≡ Some c → set (xs ++ ys) i None ≡ set xs i None ++ ys
+set-append [] ys i c e = absurd (cc)
+set-append (x ∷ xs) ys zero c e = refl
+set-append (x ∷ xs) ys (suc i) c e = ap (λ l. x ∷ l) (set-append xs ys i c e)
+
+-- a vertex is a point that has neighbours
+pub vertex_of : (n v : ℕ) (cells : List (Option Corners)) (row : List ℕ) → IsTopology n cells → row ≡ filter (are_neighbours cells v) (range_with_len 0 n) → not (eqb (length row) 0) ≡ is_vertex cells v
+unfolding mesh_with
+vertex_of n v cells row valid e =
+    let t : Topology = record { points = n; cells = cells } in
+    ap (λ l. not (eqb (length l) 0)) (e ∙ neighbours_of (mesh_with t) t v (has_mesh t)) ∙ has_neighbours (mesh_with t) v (mesh_of (mesh_with t) t (has_mesh t) valid)

@@ -1,0 +1,13 @@
+use Rattle.std.proofs.Common.{◌≡◌, Some, arith}
+use Rattle.mesh_base.specs.Edit.{cell_at}
+use Rattle.topo.proofs.TopologyLaws.{AreTables-remove}
+use Rattle.topo.proofs.topo.Topo.remove.Goals as goal
+
+pub invariant_of-self : goal.invariant_of-self
+invariant_of-self c =
+    let cells = c.self.inside.cells.items in
+    let at : cell_at cells c.args.i ≡ Some c.unwrap-removed.result = grind (arith, c.live_cell.ensures.cell, c.unwrap-removed.ensures, c.self.view_is) in
+    AreTables-remove c.self.inside.points cells _ _ _ _ c.self.invariant c.args.i
+    (c.take_cell.ensures.cells cells c.args.i c.self.invariant.tally at)
+    (c.take_cell-2.ensures.cells cells c.args.i c.self.invariant.pairs at)
+    c.take_cell.ensures.points c.take_cell-2.ensures.points

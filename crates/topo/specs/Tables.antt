@@ -1,0 +1,28 @@
+-- what is kept beside the cells
+use Rattle.std.specs.Prelude.{◌≡◌, ℕ, ◌+◌, ◌-◌, ◌<◌, ◌≤◌, List, length, Option, filter, take, drop, slice_index}
+use Rattle.std.specs.List.{range_with_len}
+use Rattle.mesh_base.specs.Mesh.{Corners, is_surface, are_neighbours}
+use Rattle.face_table.specs.Tally.{Tally, IsTallyOf}
+use Rattle.edge_table.specs.Pairs.{RowView, IsPairsOf}
+use Rattle.topo.specs.Topology.{IsTopology}
+
+-- both tables are those of these cells over so many points
+pub record AreTables (points : ℕ) (cells : List (Option Corners)) (faces : Tally) (edges : List RowView) : Type 0 where
+  pub valid : IsTopology points cells
+  pub tally : IsTallyOf cells faces
+  pub pairs : IsPairsOf cells edges
+  pub face_points : faces.points ≡ points
+  pub edge_points : length edges ≡ points
+
+-- the part of near from the number at v to the next one is this list
+pub record IsRowAt (starts near : List ℕ) (v : ℕ) (row : List ℕ) : Type 0 where
+  pub ordered : slice_index starts v ≤ slice_index starts (v + 1)
+  pub ends : slice_index starts (v + 1) ≤ length near
+  pub part : take (slice_index starts (v + 1) - slice_index starts v) (drop (slice_index starts v) near) ≡ row
+
+-- the lists are the surface of these cells, and the neighbours of each point one after the other
+pub record IsShape (points : ℕ) (cells : List (Option Corners)) (surface starts near : List ℕ) : Type 0 where
+  pub valid : IsTopology points cells
+  pub listed : surface ≡ filter (is_surface cells) (range_with_len 0 points)
+  pub starts_len : length starts ≡ points + 1
+  pub rows : (v : ℕ) → v < points → IsRowAt starts near v (filter (are_neighbours cells v) (range_with_len 0 points))
