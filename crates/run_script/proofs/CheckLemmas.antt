@@ -17,7 +17,7 @@ use Rattle.run_script.specs.declared.script.LinedEdit.{LinedEdit}
 use Rattle.run_script.specs.declared.script.Plan.{Plan}
 use Rattle.run_script.specs.declared.script.Item.{Item}
 use Rattle.run_script.specs.declared.script.Item.TheVariants as item
-use Rattle.run_script.specs.ScriptText.{Fault, fault}
+use Rattle.run_script.specs.Faults.{Fault, fault}
 use Rattle.run_script.specs.Jobs.{edit_fault, edits_fault, all_edited, or_else, fault_on, edits_of, items_of, wait_fault}
 use Rattle.run_script.specs.Checking.{Matches, FaultsWith, TakesEdit, TakesEdits}
 

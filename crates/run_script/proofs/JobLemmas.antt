@@ -22,9 +22,9 @@ use Rattle.run_script.specs.declared.script.LinedEdit.{LinedEdit}
 use Rattle.run_script.specs.declared.script.Plan.{Plan}
 use Rattle.run_script.specs.declared.script.Item.{Item}
 use Rattle.run_script.specs.declared.script.Item.TheVariants as item
-use Rattle.run_script.specs.ScriptText.{fault, ScriptView}
-use Rattle.run_script.specs.Scripts.{IsScript, IsSession, HoldsClose, is_ask, box_count}
-use Rattle.run_script.specs.Jobs.{turn, turns, turns_from, JobView, box_count as boxes_of, all_edited, planned, plan_at, idle, step_at, has_points, are_different, edit_fault, fault_on, edits_fault, wait_fault, edits_of, items_of, job_of, EditsFit, IsTurn, IsJob}
+use Rattle.run_script.specs.Faults.{fault}
+use Rattle.run_script.specs.Scripts.{ScriptView, IsScript, IsSession, HoldsClose, is_ask, box_count}
+use Rattle.run_script.specs.Jobs.{turn, turns, turns_from, JobView, box_count as boxes_of, all_edited, planned, plan_at, idle, step_at, has_points, are_different, edit_fault, fault_on, edits_fault, wait_fault, edits_of, items_of, script_fault, job_of, EditsFit, IsTurn, IsJob}
 use Rattle.run_script.proofs.CheckLemmas.{all_edited-append, edits_fault-append, wait_fault-append, edits_of-more-at, edits_of-around-at, or_else-none}
 
 -- ---- an edit without a fault fits
@@ -252,10 +252,10 @@ all-turned version steps (s ∷ ss) a w =
       few = omega (arith, t.boxes, rest.few);
     }
 
-pub job-fits : (mesh : MeshView) (script : ScriptView) → IsMesh mesh.points mesh.cells → IsScript script → edits_fault mesh (edits_of script.plans) ≡ None
-    → wait_fault (length script.plans) (items_of script.sessions) ≡ None → IsJob (job_of mesh script)
-job-fits mesh script m s e w =
-    let t = all-turned script.version (length script.plans) script.sessions (recursion_from_All (IsSession script.version) script.sessions s.sessions) w in
+pub job-fits : (mesh : MeshView) (script : ScriptView) → IsMesh mesh.points mesh.cells → IsScript script → script_fault mesh script ≡ None → IsJob (job_of mesh script)
+job-fits mesh script m s none =
+    let p = or_else-none (edits_fault mesh (edits_of script.plans)) (wait_fault (length script.plans) (items_of script.sessions)) none in
+    let t = all-turned script.version (length script.plans) script.sessions (recursion_from_All (IsSession script.version) script.sessions s.sessions) p.1 in
     record {
       mesh = m;
       few_steps = s.few_steps;
@@ -264,6 +264,6 @@ job-fits mesh script m s e w =
       few_turns = let f = s.few_boxes in omega (arith, t.few);
       few_boxes = let f = s.few_boxes in omega (arith, t.boxes);
       plans = s.plans;
-      edits = all-edits-fit (job_of mesh script) e;
+      edits = all-edits-fit (job_of mesh script) p.0;
       turns = All-from_recursion (All (IsTurn (length script.plans))) (map turns script.sessions) t.each;
     }

@@ -1,10 +1,3 @@
 pub mod Examples
-pub mod CutLemmas
-pub mod RowLemmas
-pub mod Checks
-pub mod Fits
-pub mod ReaderLemmas
 pub mod CheckLemmas
 pub mod JobLemmas
-pub mod Again
-pub mod Valid

@@ -8,7 +8,7 @@ use Rattle.run_script.specs.declared.check.Tally.{Tally}
 use Rattle.run_script.specs.declared.fault.ScriptFault.{ScriptFault}
 use Rattle.run_script.specs.declared.fault.ScriptFault.TheVariants as errors
 use Rattle.run_script.specs.declared.script.LinedEdit.{LinedEdit}
-use Rattle.run_script.specs.ScriptText.{Fault, fault}
+use Rattle.run_script.specs.Faults.{Fault, fault}
 use Rattle.run_script.specs.Jobs.{edit_fault, edits_fault, all_edited, fault_on}
 
 -- the number of points is that of the mesh, and so are the cells that are live

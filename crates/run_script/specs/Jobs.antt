@@ -15,8 +15,8 @@ use Rattle.run_script.specs.declared.script.LinedEdit.{LinedEdit}
 use Rattle.run_script.specs.declared.script.Plan.{Plan}
 use Rattle.run_script.specs.declared.script.Item.{Item}
 use Rattle.run_script.specs.declared.script.Item.TheVariants as item
-use Rattle.run_script.specs.ScriptText.{Fault, fault, ScriptView, most_steps, most_edits, most_sessions, most_boxes}
-use Rattle.run_script.specs.Scripts.{IsPlan, edit_count}
+use Rattle.run_script.specs.Faults.{Fault, fault}
+use Rattle.run_script.specs.Scripts.{ScriptView, most_steps, most_edits, most_sessions, most_boxes, IsPlan, edit_count}
 
 -- ---- turns
 
@@ -142,10 +142,13 @@ abbrev pub unless : {A : Type 0} → A → Option Fault → Result A Fault
 unless x None = Ok x
 unless x (Some f) = Err f
 
--- the job, or the first fault: of the edits, and then of the waits
+-- the first fault of a script on a mesh: of the edits, and then of the waits
+abbrev pub script_fault : MeshView → ScriptView → Option Fault
+script_fault mesh script = or_else (edits_fault mesh (edits_of script.plans)) (wait_fault (length script.plans) (items_of script.sessions))
+
+-- the job, or the first fault
 unfoldable pub checked : MeshView → ScriptView → Result JobView Fault
-checked mesh script =
-    unless (job_of mesh script) (or_else (edits_fault mesh (edits_of script.plans)) (wait_fault (length script.plans) (items_of script.sessions)))
+checked mesh script = unless (job_of mesh script) (script_fault mesh script)
 
 -- ---- what each job keeps
 

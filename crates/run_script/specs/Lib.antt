@@ -1,11 +1,7 @@
 pub mod Kinds
-pub mod Rows
-pub mod ScriptText
-pub mod Reads
+pub mod Faults
 pub mod Outcome
-pub mod Reading
 pub mod Scripts
-pub mod Printed
 pub mod Jobs
 pub mod Checking
 pub mod Turns

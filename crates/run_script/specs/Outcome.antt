@@ -2,7 +2,7 @@
 use Rattle.std.specs.Prelude.{◌≡◌, Result, Ok, Err}
 use Rattle.run_script.specs.declared.fault.ScriptFault.{ScriptFault}
 use Rattle.run_script.specs.declared.fault.ScriptFault.TheVariants as errors
-use Rattle.run_script.specs.ScriptText.{Fault, fault}
+use Rattle.run_script.specs.Faults.{Fault, fault}
 
 -- a fault is the one that is defined, unless memory ran out
 abbrev pub IsFault : {Y : Type 0} → ScriptFault → Result Y Fault → Type 0

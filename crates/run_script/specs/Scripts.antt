@@ -1,4 +1,4 @@
--- What each script keeps.
+-- What contracts see of a script, and what each script keeps.
 use Rattle.std.specs.Prelude.{◌≡◌, ℕ, ◌+◌, ◌^◌, ◌<◌, ◌≤◌, pos, neg_ℤ, ◌≤ℤ◌, Bool, true, false, ◌⊎◌, List, [], ◌∷◌, length, Option, Some, None, All, count_by, sum_by}
 use Rattle.mesh_base.specs.Place.{IsPlace, IsArea}
 use Rattle.mesh_base.specs.declared.edit.Edit.{Edit}
@@ -8,8 +8,26 @@ use Rattle.mesh_base.specs.declared.edit.Kernel.TheVariants as kernel
 use Rattle.run_script.specs.declared.script.Plan.{Plan}
 use Rattle.run_script.specs.declared.script.Item.{Item}
 use Rattle.run_script.specs.declared.script.Item.TheVariants as item
-use Rattle.run_script.specs.ScriptText.{most_steps, most_edits, most_sessions, most_boxes}
-pub use Rattle.run_script.specs.ScriptText.{ScriptView}
+
+-- what contracts see of a script
+pub record ScriptView : Type 0 where
+  pub version : ℕ
+  pub plans : List Plan
+  pub sessions : List (List Item)
+
+-- ---- the limits of a script
+
+abbrev pub most_steps : ℕ
+most_steps = 10000
+
+abbrev pub most_edits : ℕ
+most_edits = 1000000
+
+abbrev pub most_sessions : ℕ
+most_sessions = 8
+
+abbrev pub most_boxes : ℕ
+most_boxes = 100000
 
 -- ---- ranges
 

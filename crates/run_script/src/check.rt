@@ -2,12 +2,13 @@
 ghost use Rattle.std.specs.Prelude.{◌≡◌, [], ◌∷◌, IfOk, map};
 ghost use Rattle.std.specs.Option.{is_some};
 ghost use Rattle.mesh_base.specs.Mesh.{MeshView, IsMesh, corners_of};
-ghost use Rattle.run_script.specs.Jobs.{has_points, are_different, edits_fault, edits_of, wait_fault, items_of};
+ghost use Rattle.run_script.specs.Jobs.{has_points, are_different, edits_fault, edits_of, wait_fault, items_of, script_fault};
+ghost use Rattle.run_script.specs.Scripts.{IsScript};
 ghost use Rattle.run_script.specs.Checking.{Matches, TakesEdits, Finds};
 
 use crate::fault::{ScriptFault, ScriptKind};
 use crate::lists::ItemList;
-use crate::script::{Item, LinedEdit, Plan};
+use crate::script::{Item, LinedEdit, Plan, Script};
 use mesh_base::{Cell, Edit, MOST_CELLS, MOST_POINTS, Mesh, Point};
 use std::alloc::{AllocError, Global};
 
@@ -180,7 +181,7 @@ fn take_plans(tally: &mut Tally, plans: &[Plan]) -> Result<(), ScriptFault>
 }
 
 /// Finds the first fault of all edits of the plans.
-pub fn check_edits(alloc: Global, mesh: &Mesh, plans: &[Plan]) -> Result<(), ScriptFault>
+fn check_edits(alloc: Global, mesh: &Mesh, plans: &[Plan]) -> Result<(), ScriptFault>
     ensures finds { Finds (edits_fault mesh.now (edits_of plans.now)) result }
     ensures mesh { IsMesh mesh.now.points mesh.now.cells }
 {
@@ -217,11 +218,21 @@ fn check_waits(steps: u32, items: &[Item]) -> Result<(), ScriptFault>
 }
 
 /// Finds the first wait of all sessions for a step above the last.
-pub fn check_sessions(steps: u32, sessions: &[ItemList]) -> Result<(), ScriptFault>
+fn check_sessions(steps: u32, sessions: &[ItemList]) -> Result<(), ScriptFault>
     ensures { Finds (wait_fault steps (items_of sessions.now)) result }
 {
     for items in sessions {
         check_waits(steps, items.items())?;
     }
     Ok(())
+}
+
+/// Finds the first fault of a script on a mesh.
+pub fn check_script(alloc: Global, mesh: &Mesh, script: &Script) -> Result<(), ScriptFault>
+    ensures finds { Finds (script_fault mesh.now script.now) result }
+    ensures mesh { IsMesh mesh.now.points mesh.now.cells }
+    ensures script { IsScript script.now }
+{
+    check_edits(alloc, mesh, script.plans())?;
+    check_sessions(script.plans().len() as u32, script.sessions())
 }

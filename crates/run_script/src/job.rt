@@ -2,7 +2,7 @@
 ghost use Rattle.std.specs.Prelude.{◌≡◌, ◌<◌, ◌≤◌, length, All};
 ghost use Rattle.std.specs.List.{sum_by};
 
-use crate::check::{check_edits, check_sessions};
+use crate::check::check_script;
 use crate::fault::ScriptFault;
 use crate::lists::PlanList;
 use crate::script::{Plan, Script};
@@ -114,8 +114,7 @@ impl Job {
     pub fn check(alloc: Global, mesh: Mesh, script: Script) -> Result<Job, ScriptFault>
         ensures { Agrees result (checked mesh script) }
     {
-        check_edits(alloc, &mesh, script.plans())?;
-        check_sessions(script.plans().len() as u32, script.sessions())?;
+        check_script(alloc, &mesh, &script)?;
         let sessions = all_turns(alloc, script.sessions())?;
         let plans = script.into_plans();
         Ok(Job {

@@ -1,9 +1,8 @@
 //! Scripts within their limits.
-ghost use Rattle.std.specs.Prelude.{◌≡◌, [], ◌∷◌, ◌++◌, OnOk};
+ghost use Rattle.std.specs.Prelude.{◌≡◌};
 
 use crate::lists::{EditList, ItemList, PlanList, SessionList};
 use mesh_base::{BoxQ, Edit, Kernel};
-use std::alloc::AllocError;
 use std::marker::Model;
 
 /// An edit, and the line of the script on which it stands, counted from 1.
@@ -11,14 +10,6 @@ use std::marker::Model;
 pub struct LinedEdit {
     pub line: u32,
     pub edit: Edit,
-}
-
-/// Appends an edit.
-pub fn push_edit(edits: &mut Vec<LinedEdit>, line: u32, edit: Edit) -> Result<(), AllocError>
-    ensures { OnOk result (edits.new.items ≡ edits.old.items ++ record { line = line; edit = edit } ∷ []) }
-{
-    edits.push(LinedEdit { line, edit })?;
-    Ok(())
 }
 
 /// What makes a step of the one before it: the edits in order, and then the motion of all points at once.
@@ -67,8 +58,10 @@ impl Script {
     ghost use Rattle.std.specs.Prelude.{◌≡◌};
     ghost use Rattle.run_script.specs.Scripts.{IsScript};
 
-    /// The script of these parts, within the limits.
-    pub(crate) fn of(version: u32, plans: PlanList, sessions: SessionList) -> Script
+    /// The script of these parts. They have to keep what each script keeps, as it is said above: the version is 1 or 2, the
+    /// plans, edits, sessions and boxes are within the limits, each number is in its range, and each hold is closed. No plans
+    /// and no sessions are a script too. It takes no memory and copies nothing.
+    pub fn of(version: u32, plans: PlanList, sessions: SessionList) -> Script
         requires { IsScript (record { version = version; plans = plans; sessions = sessions }) }
         ensures { result ≡ record { version = version; plans = plans; sessions = sessions } }
     {

@@ -1,9 +1,0 @@
-use Rattle.std.proofs.Common.{◌≡◌, ◌+◌, ◌≤◌, length}
-use Rattle.run_script.specs.ScriptText.{words}
-use Rattle.run_script.proofs.cuts.count_words.Given as goal
-
-abbrev pub invariant-loop-word : goal.invariant-loop-word
-invariant-loop-word l = (l.count + length (words l.rest) ≡ length (words l.line)) × (l.count + length l.rest ≤ length l.line)
-
-abbrev pub decreases-loop-word : goal.decreases-loop-word
-decreases-loop-word l = length l.rest

@@ -1,7 +1,0 @@
-use Rattle.std.proofs.Common.{◌≡◌, ◌++◌, take}
-use Rattle.std.specs.Prelude.{flat_map}
-use Rattle.run_script.specs.Printed.{plan_spelling}
-use Rattle.run_script.proofs.printing.put_plans.Given as goal
-
-abbrev pub invariant-loop-plan : goal.invariant-loop-plan
-invariant-loop-plan l = l.out.items ≡ l.fn.out.items ++ flat_map plan_spelling (take l.plan-index l.plans)

@@ -1,0 +1,13 @@
+pub mod Examples
+pub mod CutLemmas
+pub mod RowLemmas
+pub mod Checks
+pub mod Fits
+pub mod ReaderLemmas
+pub mod Again
+pub mod Valid
+pub mod ValuesAgain
+pub mod LinesAgain
+pub mod RowsAgain
+pub mod RowsOf
+pub mod ScriptAgain

@@ -1,0 +1,5 @@
+pub mod Rows
+pub mod ScriptText
+pub mod Reads
+pub mod Reading
+pub mod Printed
