@@ -10,6 +10,7 @@
 
 mod positions;
 mod shape;
+mod tables;
 mod topo;
 
 pub use positions::Positions;

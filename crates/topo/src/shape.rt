@@ -5,7 +5,7 @@ ghost use Rattle.mesh_base.specs.Mesh.{MeshView, IsMesh, is_vertex, is_surface, 
 ghost use Rattle.topo.specs.Topology.{Topology, IsTopologyOf, IsTopology};
 ghost use Rattle.topo.specs.Tables.{IsRowAt};
 
-use crate::topo::Topo;
+use crate::tables::Tables;
 use mesh_base::{Cell, NoMemory};
 use std::alloc::Global;
 use std::marker::Model;
@@ -35,16 +35,16 @@ impl Model for Shape {
 }
 
 // The neighbours of all points one after the other, and where those of each begin.
-fn list_neighbours(alloc: Global, topo: &Topo) -> Result<(Vec<usize>, Vec<u32>), NoMemory>
-    ensures len { IfOk result (λ lists. length lists.0.items ≡ topo.now.points + 1) }
-    ensures rows { IfOk result (λ lists. (v : ℕ) → v < topo.now.points
-        → IsRowAt lists.0.items lists.1.items v (filter (are_neighbours topo.now.cells v) (range_with_len 0 topo.now.points))) }
+fn list_neighbours(alloc: Global, tables: &Tables) -> Result<(Vec<usize>, Vec<u32>), NoMemory>
+    ensures len { IfOk result (λ lists. length lists.0.items ≡ tables.now.points + 1) }
+    ensures rows { IfOk result (λ lists. (v : ℕ) → v < tables.now.points
+        → IsRowAt lists.0.items lists.1.items v (filter (are_neighbours tables.now.cells v) (range_with_len 0 tables.now.points))) }
 {
-    let mut starts = Vec::with_capacity(alloc, topo.points() as usize + 1)?;
+    let mut starts = Vec::with_capacity(alloc, tables.points() as usize + 1)?;
     let mut near = Vec::new(alloc);
     starts.push(0)?;
-    for v in 0..topo.points() {
-        near.extend_from_slice(topo.neighbours(v))?;
+    for v in 0..tables.points() {
+        near.extend_from_slice(tables.neighbours(v))?;
         starts.push(near.len())?;
     }
     Ok((starts, near))
@@ -52,14 +52,14 @@ fn list_neighbours(alloc: Global, topo: &Topo) -> Result<(Vec<usize>, Vec<u32>),
 
 impl Shape {
     /// A copy of what the topology is now.
-    pub(crate) fn of(alloc: Global, topo: &Topo) -> Result<Shape, NoMemory>
-        ensures { IfOk result (λ shape. shape ≡ topo.now) }
+    pub(crate) fn of(alloc: Global, tables: &Tables) -> Result<Shape, NoMemory>
+        ensures { IfOk result (λ shape. shape ≡ tables.now) }
     {
-        let (starts, near) = list_neighbours(alloc, topo)?;
+        let (starts, near) = list_neighbours(alloc, tables)?;
         Ok(Shape {
-            points: topo.points(),
-            cells: topo.cells().to_vec(alloc)?,
-            surface: topo.surface().to_vec(alloc)?,
+            points: tables.points(),
+            cells: tables.cells().to_vec(alloc)?,
+            surface: tables.surface().to_vec(alloc)?,
             starts,
             near,
         })

@@ -175,6 +175,46 @@ fn frozen_shapes_stay(rt: HostRuntime) -> Result<(), Fail> {
     Ok(())
 }
 
+// How many own the last shape: the topology, and who asks.
+fn owners(alloc: Global, topo: &mut Topo) -> Result<usize, Fail> {
+    let shape = topo.freeze_next(alloc)?;
+    Ok(Arc::strong_count(&shape))
+}
+
+// How many own a shape before an edit, where it was asked for twice, and behind the edit the new one and the old one.
+fn owners_around(alloc: Global, topo: &mut Topo, edit: &Edit) -> Result<[usize; 3], Fail> {
+    let before = topo.freeze_next(alloc)?;
+    let again = owners(alloc, topo)?;
+    make(alloc, topo, edit)?;
+    let after = owners(alloc, topo)?;
+    Ok([again, after, Arc::strong_count(&before)])
+}
+
+// Without an edit the last shape comes again, and after one a shape of what the topology is then.
+#[test]
+fn shapes_are_shared_between_edits(rt: HostRuntime) -> Result<(), Fail> {
+    let alloc = rt.alloc();
+    let mut topo = split_cell(alloc)?;
+    let at = somewhere()?;
+    for edit in [
+        Edit::Remove { cell: 3 },
+        Edit::Split { cell: 8, at },
+        Edit::Point { at },
+        Edit::Add {
+            corners: [7, 0, 1, 3],
+        },
+    ] {
+        assert_eq!(rt;
+            owners_around(alloc, &mut topo, &edit)?,
+            [3, 2, 1],
+            "{edit:?}"
+        );
+    }
+    let shape = topo.freeze_next(alloc)?;
+    assert!(rt; is_shape_of(alloc, &shape, topo.points(), topo.cells())?);
+    Ok(())
+}
+
 #[test]
 fn edits_that_do_not_fit_are_told(rt: HostRuntime) -> Result<(), Fail> {
     let alloc = rt.alloc();

@@ -1,15 +1,14 @@
 //! The cells of a mesh that edits change, with its surface and neighbours.
-ghost use Rattle.std.specs.Prelude.{◌≡◌, ◌==◌, ◌↔◌, ℕ, not, ◌+◌, ◌-◌, ◌<◌, ◌≤◌, List, Option, [], ◌∷◌, ◌++◌, Some, None, length, filter, map, take, slice_set, All, IfSome, IsSome, IsTrue, IfOk, OnOk, OnErr};
+ghost use Rattle.std.specs.Prelude.{◌≡◌, ◌==◌, ◌↔◌, ℕ, not, ◌<◌, ◌≤◌, length, filter, IsTrue, IfOk, OnOk, OnErr};
 ghost use Rattle.std.specs.Arc.{arc_value};
 ghost use Rattle.std.specs.List.{range_with_len};
-ghost use Rattle.mesh_base.specs.Mesh.{MeshView, corners_of, AreDifferent, AreWithin, AreAllDifferent, IsWithin, IsMesh, is_vertex, is_surface, are_neighbours, surface, neighbours};
-ghost use Rattle.mesh_base.specs.Edit.{cell_at, edited, quarters, split_cells, EditFits};
-ghost use Rattle.topo.specs.Topology.{Topology, IsTopologyOf, IsTopology, Fits};
+ghost use Rattle.mesh_base.specs.Mesh.{MeshView, AreWithin, IsMesh, is_vertex, is_surface, are_neighbours, surface, neighbours};
+ghost use Rattle.mesh_base.specs.Edit.{edited, EditFits};
+ghost use Rattle.topo.specs.Topology.{IsTopologyOf, IsTopology, Fits};
 
 use crate::shape::Shape;
-use edge_table::EdgeTable;
-use face_table::FaceTable;
-use mesh_base::{Cell, CellList, Edit, MOST_CELLS, MOST_POINTS, NoMemory};
+use crate::tables::Tables;
+use mesh_base::{Cell, CellList, Edit, NoMemory};
 use std::alloc::Global;
 use std::marker::Model;
 use std::sync::Arc;
@@ -18,64 +17,24 @@ use std::sync::Arc;
 ///
 /// Points and cells are numbered from 0. An absent cell keeps its number. Contracts see a number and a list of cells, and
 /// speak of every mesh that has so many points and these cells.
+///
+/// It keeps the last shape that `freeze_next` gave, until an edit comes: a kept shape is what the topology is now.
 #[derive(Drop)]
 pub struct Topo {
-    points: u32,
-    cells: Vec<Option<Cell>>,
-    faces: FaceTable,
-    edges: EdgeTable,
+    tables: Tables,
+    last: Option<Arc<Shape>>,
 }
 
 impl Model for Topo {
+    ghost use Rattle.std.specs.Prelude.{◌≡◌, IfSome};
+    ghost use Rattle.std.specs.Arc.{arc_value};
     ghost use Rattle.topo.specs.Topology.{Topology};
-    ghost use Rattle.topo.specs.Tables.{AreTables};
 
     ghost Value = { Topology };
 
-    ghost view = { λ t. record { points = t.points; cells = t.cells.items } };
+    ghost view = { λ t. t.tables };
 
-    ghost invariant = { λ t. AreTables t.points t.cells.items t.faces t.edges };
-}
-
-// The corners of a live cell differ, which its type says. Nothing is computed.
-fn is_different(cell: &Option<Cell>)
-    ensures { IfSome cell.now AreDifferent }
-{
-    if let Some(cell) = cell {
-        let _corners = cell.corners();
-    }
-}
-
-// So do those of each live cell.
-fn are_different(cells: &[Option<Cell>])
-    ensures { AreAllDifferent cells.now }
-{
-    for cell in cells {
-        is_different(cell);
-    }
-}
-
-// The cell with these corners, which differ.
-fn cell_of(corners: [u32; 4]) -> Cell
-    requires { AreDifferent (corners_of corners) }
-    ensures { result ≡ corners_of corners }
-{
-    Cell::new(corners).unwrap()
-}
-
-// The four cells that have the point in place of one corner.
-fn quarters_of(point: u32, cell: &Cell) -> [Cell; 4]
-    requires { IsWithin point cell.now }
-    ensures cells { map Some result ≡ quarters point cell.now }
-    ensures within { All (IsWithin (point + 1)) result }
-{
-    let [a, b, c, d] = cell.corners();
-    [
-        cell_of([point, b, c, d]),
-        cell_of([a, point, c, d]),
-        cell_of([a, b, point, d]),
-        cell_of([a, b, c, point]),
-    ]
+    ghost invariant = { λ t. IfSome t.last (λ shape. arc_value shape ≡ t.tables) };
 }
 
 impl Topo {
@@ -88,15 +47,9 @@ impl Topo {
         requires within { AreWithin points cells }
         ensures { IfOk result (λ topo. topo ≡ record { points = points; cells = cells }) }
     {
-        let cells = cells.into_items();
-        are_different(&cells);
-        let faces = FaceTable::build(alloc, points, &cells)?;
-        let edges = EdgeTable::build(alloc, points, &cells)?;
         Ok(Topo {
-            points,
-            cells,
-            faces,
-            edges,
+            tables: Tables::build(alloc, points, cells)?,
+            last: None,
         })
     }
 
@@ -105,7 +58,7 @@ impl Topo {
         ensures points { result ≡ self.now.points }
         ensures few { self.now.points ≤ 1000000 }
     {
-        self.points
+        self.tables.points()
     }
 
     /// The cells, by their numbers. An absent one is None.
@@ -114,7 +67,7 @@ impl Topo {
         ensures valid { (mesh : MeshView) → IsTopologyOf mesh self.now → IsMesh mesh.points mesh.cells }
         ensures topology { IsTopology self.now.points self.now.cells }
     {
-        self.cells.as_slice()
+        self.tables.cells()
     }
 
     /// The neighbours of point v, ascending: the other corners of the live cells that have it. A vertex has some, and
@@ -125,7 +78,7 @@ impl Topo {
         ensures listed { result.now ≡ filter (are_neighbours self.now.cells v) (range_with_len 0 self.now.points) }
         ensures vertex { not (length result.now == 0) ≡ is_vertex self.now.cells v }
     {
-        self.edges.neighbours(v)
+        self.tables.neighbours(v)
     }
 
     /// The vertices of the surface, ascending: those on a face that exactly one live cell has. Nothing is searched or
@@ -134,28 +87,33 @@ impl Topo {
         ensures mesh { (mesh : MeshView) → IsTopologyOf mesh self.now → result.now ≡ surface mesh }
         ensures listed { result.now ≡ filter (is_surface self.now.cells) (range_with_len 0 self.now.points) }
     {
-        self.faces.surface()
+        self.tables.surface()
     }
 
     /// A shape that is what the topology is now, and stays so whatever is edited later. After NoMemory nothing has changed.
     ///
-    /// It copies the cells, the neighbours and the surface, whether or not an edit came since the last one: a caller that
-    /// makes no edit keeps the shape that it has.
+    /// It copies the cells, the neighbours and the surface, whether or not an edit came since the last one.
     pub fn freeze(&self, alloc: Global) -> Result<Arc<Shape>, NoMemory>
         ensures { IfOk result (λ shape. arc_value shape ≡ self.now) }
     {
-        let shape = Shape::of(alloc, self)?;
+        let shape = Shape::of(alloc, &self.tables)?;
         Ok(Arc::new(alloc, shape)?)
     }
 
-    // Cell i, if it is there and live.
-    fn live_cell(&self, i: u32) -> Option<Cell>
-        ensures cell { result ≡ cell_at self.now.cells i }
+    /// The same as `freeze` gives. After NoMemory nothing has changed.
+    ///
+    /// Where no edit was made since the last shape that it gave, it gives that very shape, at the cost of one count.
+    /// Otherwise it costs what `freeze` costs.
+    pub fn freeze_next(&mut self, alloc: Global) -> Result<Arc<Shape>, NoMemory>
+        ensures ok { IfOk result (λ shape. arc_value shape ≡ self.old) }
+        ensures same { self.new ≡ self.old }
     {
-        match self.cells.get(i as usize) {
-            Some(cell) => *cell,
-            None => None,
+        if let Some(shape) = &self.last {
+            return Ok(shape.clone()?);
         }
+        let shape = self.freeze(alloc)?;
+        self.last = Some(shape.clone()?);
+        Ok(shape)
     }
 
     /// Whether the edit fits: the points and the cell that it names are there, the cell is live, the four numbers of a new
@@ -164,177 +122,21 @@ impl Topo {
         ensures fits { IsTrue result ↔ Fits self.now edit.now }
         ensures each { (mesh : MeshView) → IsTopologyOf mesh self.now → IsTrue result ↔ EditFits mesh edit.now }
     {
-        match *edit {
-            Edit::Point { .. } => self.has_point_room(),
-            Edit::Add { corners } => {
-                self.cells.len() < MOST_CELLS
-                    && self.has_points(corners)
-                    && Cell::new(corners).is_some()
-            }
-            Edit::Remove { cell } => self.live_cell(cell).is_some(),
-            Edit::Split { cell, .. } => {
-                self.live_cell(cell).is_some()
-                    && self.has_point_room()
-                    && self.cells.len() <= MOST_CELLS - 4
-            }
-        }
+        self.tables.edit_ok(edit)
     }
 
     /// Makes the edit, in place. After NoMemory the topology is as it was.
     ///
-    /// It costs what the puts and the takes of its cells cost in the two tables, whatever the size of the mesh: one for a
-    /// new cell and for one that goes, five for a split. It takes memory only where a list or a table has to grow. A split
-    /// that is refused memory halfway takes back what it put in.
+    /// It costs what the puts and the takes of its cells cost in the tables of faces and of neighbours, whatever the size of
+    /// the mesh: one for a new cell and for one that goes, five for a split. It takes memory only where a list or a table has
+    /// to grow. A split that is refused memory halfway takes back what it put in.
     pub fn edit(&mut self, alloc: Global, edit: &Edit) -> Result<(), NoMemory>
         requires fits { Fits self.old edit.now }
         ensures edited { OnOk result ((mesh : MeshView) → IsTopologyOf mesh self.old → IsTopologyOf (edited mesh edit.now) self.new) }
         ensures err { OnErr result (self.new ≡ self.old) }
     {
-        match *edit {
-            Edit::Point { .. } => self.push_point(alloc),
-            Edit::Add { corners } => self.push_cell(alloc, cell_of(corners)),
-            Edit::Remove { cell } => {
-                self.remove(cell);
-                Ok(())
-            }
-            Edit::Split { cell, .. } => self.split(alloc, cell),
-        }
-    }
-
-    // Whether one more point is allowed.
-    fn has_point_room(&self) -> bool
-        ensures { IsTrue result ↔ (self.now.points < 1000000) }
-    {
-        (self.points as usize) < MOST_POINTS
-    }
-
-    // Whether the four numbers are points.
-    fn has_points(&self, corners: [u32; 4]) -> bool
-        ensures { IsTrue result ↔ IsWithin self.now.points (corners_of corners) }
-    {
-        let [a, b, c, d] = corners;
-        a < self.points && b < self.points && c < self.points && d < self.points
-    }
-
-    // One point more, which no cell has.
-    fn push_point(&mut self, alloc: Global) -> Result<(), NoMemory>
-        requires { self.old.points < 1000000 }
-        ensures points { OnOk result (self.new.points ≡ self.old.points + 1) }
-        ensures cells { OnOk result (self.new.cells ≡ self.old.cells) }
-        ensures err { OnErr result (self.new ≡ self.old) }
-    {
-        self.faces.put_point(alloc)?;
-        if let Err(refused) = self.edges.put_point(alloc) {
-            self.faces.drop_point();
-            return Err(refused);
-        }
-        self.points += 1;
-        Ok(())
-    }
-
-    // One point less: the last, which no cell has.
-    fn pop_point(&mut self)
-        requires some { 0 < self.old.points }
-        requires free { AreWithin (self.old.points - 1) self.old.cells }
-        ensures points { self.new.points + 1 ≡ self.old.points }
-        ensures cells { self.new.cells ≡ self.old.cells }
-    {
-        self.faces.drop_point();
-        self.edges.drop_point();
-        self.points -= 1;
-    }
-
-    // One cell more, at the end of the list.
-    fn push_cell(&mut self, alloc: Global, cell: Cell) -> Result<(), NoMemory>
-        requires few { length self.old.cells < 4000000 }
-        requires within { IsWithin self.old.points cell }
-        ensures points { self.new.points ≡ self.old.points }
-        ensures cells { OnOk result (self.new.cells ≡ self.old.cells ++ Some cell ∷ []) }
-        ensures err { OnErr result (self.new ≡ self.old) }
-    {
-        let _corners = cell.corners();
-        self.cells.reserve(1)?;
-        self.faces.put_cell(alloc, cell)?;
-        if let Err(refused) = self.edges.put_cell(alloc, cell) {
-            self.faces.take_cell(cell);
-            return Err(refused);
-        }
-        self.cells.push_reserved(Some(cell));
-        Ok(())
-    }
-
-    // The last entry of the list goes.
-    fn pop_cell(&mut self)
-        requires { 0 < length self.old.cells }
-        ensures points { self.new.points ≡ self.old.points }
-        ensures cells { self.new.cells ≡ take (length self.old.cells - 1) self.old.cells }
-    {
-        let last = self.cells.len() - 1;
-        if let Some(popped) = self.cells[last] {
-            self.faces.take_cell(popped);
-            self.edges.take_cell(popped);
-        }
-        self.cells.truncate(last);
-    }
-
-    // The entries from number `len` on go.
-    fn truncate(&mut self, len: usize)
-        requires { len ≤ length self.old.cells }
-        ensures points { self.new.points ≡ self.old.points }
-        ensures cells { self.new.cells ≡ take len self.old.cells }
-    {
-        while self.cells.len() > len {
-            self.pop_cell();
-        }
-    }
-
-    // These cells more, or none of them.
-    fn push_cells(&mut self, alloc: Global, cells: &[Cell]) -> Result<(), NoMemory>
-        requires few { length self.old.cells + length cells.now ≤ 4000000 }
-        requires within { All (IsWithin self.old.points) cells.now }
-        ensures points { self.new.points ≡ self.old.points }
-        ensures cells { OnOk result (self.new.cells ≡ self.old.cells ++ map Some cells.now) }
-        ensures err { OnErr result (self.new ≡ self.old) }
-    {
-        let before = self.cells.len();
-        for cell in cells {
-            if let Err(refused) = self.push_cell(alloc, *cell) {
-                self.truncate(before);
-                return Err(refused);
-            }
-        }
-        Ok(())
-    }
-
-    // Cell i, which is live, becomes absent.
-    fn remove(&mut self, i: u32)
-        requires { IsSome (cell_at self.old.cells i) }
-        ensures points { self.new.points ≡ self.old.points }
-        ensures cells { self.new.cells ≡ slice_set self.old.cells i None }
-    {
-        let removed = self.live_cell(i).unwrap();
-        self.faces.take_cell(removed);
-        self.edges.take_cell(removed);
-        self.cells[i as usize] = None;
-    }
-
-    // Cell i, which is live, becomes absent, and four cells come that have a new point in place of one of its corners.
-    fn split(&mut self, alloc: Global, i: u32) -> Result<(), NoMemory>
-        requires live { IsSome (cell_at self.old.cells i) }
-        requires few_points { self.old.points < 1000000 }
-        requires few_cells { length self.old.cells ≤ 3999996 }
-        ensures points { OnOk result (self.new.points ≡ self.old.points + 1) }
-        ensures cells { OnOk result (IfSome (cell_at self.old.cells i) (λ c. self.new.cells ≡ split_cells self.old.cells self.old.points i c)) }
-        ensures err { OnErr result (self.new ≡ self.old) }
-    {
-        let cell = self.live_cell(i).unwrap();
-        let quarters = quarters_of(self.points, &cell);
-        self.push_point(alloc)?;
-        if let Err(refused) = self.push_cells(alloc, &quarters) {
-            self.pop_point();
-            return Err(refused);
-        }
-        self.remove(i);
+        self.tables.edit(alloc, edit)?;
+        self.last = None;
         Ok(())
     }
 }

@@ -23,7 +23,7 @@ loop-v-preserved c =
         | inl before ↦ row-kept starts near more _ v u e inv.0 before (inv.2 u before)
         | inr after ↦
             let now : v ≡ u = omega arith in
-            subst (λ k. IsRowAt (starts ++ e ∷ []) (near ++ more) k (filter (are_neighbours c.args.topo.now.cells k) (range_with_len 0 c.args.topo.now.points))) now
+            subst (λ k. IsRowAt (starts ++ e ∷ []) (near ++ more) k (filter (are_neighbours c.args.tables.now.cells k) (range_with_len 0 c.args.tables.now.points))) now
             (subst (IsRowAt (starts ++ e ∷ []) (near ++ more) v) c.neighbours.ensures.listed (row-new starts near more v e inv.0 inv.1 end))
       ],
     )

@@ -8,4 +8,4 @@ abbrev pub invariant-loop-v : goal.invariant-loop-v
 invariant-loop-v l =
     (length l.starts.items ≡ l.v + 1)
     × (get_or l.starts.items l.v 0 ≡ length l.near.items)
-    × ((v : ℕ) → v < l.v → IsRowAt l.starts.items l.near.items v (filter (are_neighbours l.topo.cells v) (range_with_len 0 l.topo.points)))
+    × ((v : ℕ) → v < l.v → IsRowAt l.starts.items l.near.items v (filter (are_neighbours l.tables.cells v) (range_with_len 0 l.tables.points)))

@@ -1,12 +1,12 @@
 use Rattle.std.proofs.Common.{length, ap, sym, subst, arith}
 use Rattle.mesh_base.specs.Mesh.{IsWithin}
 use Rattle.topo.proofs.TopologyLaws.{cell_at-push, AreTables-push}
-use Rattle.topo.proofs.topo.Topo.push_cell.Goals as goal
+use Rattle.topo.proofs.tables.Tables.push_cell.Goals as goal
 
-pub take_cell-requires-clause-there : goal.take_cell-requires-clause-there
-take_cell-requires-clause-there c =
+pub take_cell-requires : goal.take_cell-requires
+take_cell-requires c =
     let cells = c.self.inside.cells.items in
-    (_, length cells, c.in_ok-put_cell.ensures.cells cells c.self.invariant.tally, cell_at-push cells c.args.cell)
+    record { there = (_, length cells, c.in_ok-put_cell.ensures.cells cells c.self.invariant.tally, cell_at-push cells c.args.cell) }
 
 pub invariant_of-self-2 : goal.invariant_of-self-2
 invariant_of-self-2 c =

@@ -1,13 +1,13 @@
 use Rattle.std.proofs.Common.{◌≡◌, ◌+◌, ◌-◌, sym, ap, subst, get_or, ◌∙◌, length, arith}
 use Rattle.topo.proofs.TopologyLaws.{cell_at-index, AreTables-same, AreTables-remove, live-pop, live-absent, IsTopology-take}
-use Rattle.topo.proofs.topo.Topo.pop_cell.Goals as goal
-use Rattle.topo.proofs.topo.Topo.pop_cell.Goals.{in-Some, in_default}
+use Rattle.topo.proofs.tables.Tables.pop_cell.Goals as goal
+use Rattle.topo.proofs.tables.Tables.pop_cell.Goals.{in-Some, in_default}
 
-pub take_cell-requires-clause-there : goal.take_cell-requires-clause-there
-take_cell-requires-clause-there c =
+pub take_cell-requires : goal.take_cell-requires
+take_cell-requires c =
     let cells = c.self.inside.cells.items in
     let some = ap (λ t. length t.cells) c.self.view_is in
-    (cells, c.len-last.result - 1, c.self.invariant.tally, cell_at-index cells (c.len-last.result - 1) c.index.result.now (omega (arith, some, c.requires, c.len-last.ensures)) c.index.ensures ∙ c.in-Some.is)
+    record { there = (cells, c.len-last.result - 1, c.self.invariant.tally, cell_at-index cells (c.len-last.result - 1) c.index.result.now (omega (arith, some, c.requires, c.len-last.ensures)) c.index.ensures ∙ c.in-Some.is) }
 
 pub take_cell-requires-in-Some : goal.take_cell-requires-in-Some
 take_cell-requires-in-Some c =

@@ -1,7 +1,7 @@
 use Rattle.std.proofs.Common.{◌≡◌, Some, arith}
 use Rattle.mesh_base.specs.Edit.{cell_at}
 use Rattle.topo.proofs.TopologyLaws.{AreTables-remove}
-use Rattle.topo.proofs.topo.Topo.remove.Goals as goal
+use Rattle.topo.proofs.tables.Tables.remove.Goals as goal
 
 pub invariant_of-self : goal.invariant_of-self
 invariant_of-self c =

@@ -2,7 +2,7 @@ use Rattle.std.proofs.Common.{◌-◌, sym, ap, ◌∙◌, subst, arith}
 use Rattle.mesh_base.specs.Mesh.{is_vertex, AreWithin}
 use Rattle.face_table.specs.Tally.{tally_in}
 use Rattle.topo.proofs.TopologyLaws.{no_vertex, IsTopology-fewer}
-use Rattle.topo.proofs.topo.Topo.pop_point.Goals as goal
+use Rattle.topo.proofs.tables.Tables.pop_point.Goals as goal
 
 pub drop_point-requires-clause-free : goal.drop_point-requires-clause-free
 drop_point-requires-clause-free c =

@@ -2,7 +2,7 @@ use Rattle.std.proofs.Common.{◌+◌, ◌++◌, Some, None, set, All, map, ◌�
 use Rattle.mesh_base.specs.Mesh.{IsWithin}
 use Rattle.mesh_base.specs.Edit.{quarters}
 use Rattle.topo.proofs.TopologyLaws.{cell_at-append, set-append}
-use Rattle.topo.proofs.topo.Topo.split.Goals as goal
+use Rattle.topo.proofs.tables.Tables.split.Goals as goal
 
 pub push_cells-requires-clause-within : goal.push_cells-requires-clause-within
 push_cells-requires-clause-within c =

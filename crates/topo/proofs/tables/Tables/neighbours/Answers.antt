@@ -2,7 +2,7 @@ use Rattle.std.proofs.Common.{ap, ◌∙◌, filter}
 use Rattle.std.specs.List.{range_with_len}
 use Rattle.mesh_base.specs.Mesh.{is_vertex, are_neighbours}
 use Rattle.topo.proofs.TopologyLaws.{vertex_of}
-use Rattle.topo.proofs.topo.Topo.neighbours.Goals as goal
+use Rattle.topo.proofs.tables.Tables.neighbours.Goals as goal
 
 pub returns-clause-vertex : goal.returns-clause-vertex
 returns-clause-vertex c =

@@ -1,6 +1,6 @@
 use Rattle.std.proofs.Common.{rules}
 use Rattle.topo.proofs.TopologyLaws.{fits_one}
-use Rattle.topo.proofs.topo.Topo.edit_ok.Goals as goal
+use Rattle.topo.proofs.tables.Tables.edit_ok.Goals as goal
 
 pub returns-in-Point-clause-fits : goal.returns-in-Point-clause-fits
 returns-in-Point-clause-fits c = fits_one c.args.self.now c.args.edit.now _ (λ mesh is. search rules)

@@ -1,0 +1,314 @@
+//! The cells of a mesh with the two tables that follow from them, changed by edits.
+ghost use Rattle.std.specs.Prelude.{◌≡◌, ◌==◌, ◌↔◌, ℕ, not, ◌+◌, ◌-◌, ◌<◌, ◌≤◌, List, Option, [], ◌∷◌, ◌++◌, Some, None, length, filter, map, take, slice_set, All, IfSome, IsSome, IsTrue, IfOk, OnOk, OnErr};
+ghost use Rattle.std.specs.List.{range_with_len};
+ghost use Rattle.mesh_base.specs.Mesh.{MeshView, corners_of, AreDifferent, AreWithin, AreAllDifferent, IsWithin, IsMesh, is_vertex, is_surface, are_neighbours, surface, neighbours};
+ghost use Rattle.mesh_base.specs.Edit.{cell_at, edited, quarters, split_cells, EditFits};
+ghost use Rattle.topo.specs.Topology.{Topology, IsTopologyOf, IsTopology, Fits};
+
+use edge_table::EdgeTable;
+use face_table::FaceTable;
+use mesh_base::{Cell, CellList, Edit, MOST_CELLS, MOST_POINTS, NoMemory};
+use std::alloc::Global;
+use std::marker::Model;
+
+/// How many points a mesh has, and its cells, with the tables from which the surface and the neighbours are read.
+#[derive(Drop)]
+pub struct Tables {
+    points: u32,
+    cells: Vec<Option<Cell>>,
+    faces: FaceTable,
+    edges: EdgeTable,
+}
+
+impl Model for Tables {
+    ghost use Rattle.topo.specs.Topology.{Topology};
+    ghost use Rattle.topo.specs.Tables.{AreTables};
+
+    ghost Value = { Topology };
+
+    ghost view = { λ t. record { points = t.points; cells = t.cells.items } };
+
+    ghost invariant = { λ t. AreTables t.points t.cells.items t.faces t.edges };
+}
+
+// The corners of a live cell differ, which its type says. Nothing is computed.
+fn is_different(cell: &Option<Cell>)
+    ensures { IfSome cell.now AreDifferent }
+{
+    if let Some(cell) = cell {
+        let _corners = cell.corners();
+    }
+}
+
+// So do those of each live cell.
+fn are_different(cells: &[Option<Cell>])
+    ensures { AreAllDifferent cells.now }
+{
+    for cell in cells {
+        is_different(cell);
+    }
+}
+
+// The cell with these corners, which differ.
+fn cell_of(corners: [u32; 4]) -> Cell
+    requires { AreDifferent (corners_of corners) }
+    ensures { result ≡ corners_of corners }
+{
+    Cell::new(corners).unwrap()
+}
+
+// The four cells that have the point in place of one corner.
+fn quarters_of(point: u32, cell: &Cell) -> [Cell; 4]
+    requires { IsWithin point cell.now }
+    ensures cells { map Some result ≡ quarters point cell.now }
+    ensures within { All (IsWithin (point + 1)) result }
+{
+    let [a, b, c, d] = cell.corners();
+    [
+        cell_of([point, b, c, d]),
+        cell_of([a, point, c, d]),
+        cell_of([a, b, point, d]),
+        cell_of([a, b, c, point]),
+    ]
+}
+
+impl Tables {
+    /// The tables of these cells over points numbered from 0.
+    pub fn build(alloc: Global, points: u32, cells: CellList) -> Result<Tables, NoMemory>
+        requires few_points { points ≤ 1000000 }
+        requires few_cells { length cells ≤ 4000000 }
+        requires within { AreWithin points cells }
+        ensures { IfOk result (λ tables. tables ≡ record { points = points; cells = cells }) }
+    {
+        let cells = cells.into_items();
+        are_different(&cells);
+        let faces = FaceTable::build(alloc, points, &cells)?;
+        let edges = EdgeTable::build(alloc, points, &cells)?;
+        Ok(Tables {
+            points,
+            cells,
+            faces,
+            edges,
+        })
+    }
+
+    /// How many points there are.
+    pub fn points(&self) -> u32
+        ensures points { result ≡ self.now.points }
+        ensures few { self.now.points ≤ 1000000 }
+    {
+        self.points
+    }
+
+    /// The cells, by their numbers. An absent one is None.
+    pub fn cells(&self) -> &[Option<Cell>]
+        ensures cells { result.now ≡ self.now.cells }
+        ensures valid { (mesh : MeshView) → IsTopologyOf mesh self.now → IsMesh mesh.points mesh.cells }
+        ensures topology { IsTopology self.now.points self.now.cells }
+    {
+        self.cells.as_slice()
+    }
+
+    /// The neighbours of point v, ascending.
+    pub fn neighbours(&self, v: u32) -> &[u32]
+        requires { v < self.now.points }
+        ensures mesh { (mesh : MeshView) → IsTopologyOf mesh self.now → result.now ≡ neighbours mesh v }
+        ensures listed { result.now ≡ filter (are_neighbours self.now.cells v) (range_with_len 0 self.now.points) }
+        ensures vertex { not (length result.now == 0) ≡ is_vertex self.now.cells v }
+    {
+        self.edges.neighbours(v)
+    }
+
+    /// The vertices of the surface, ascending.
+    pub fn surface(&self) -> &[u32]
+        ensures mesh { (mesh : MeshView) → IsTopologyOf mesh self.now → result.now ≡ surface mesh }
+        ensures listed { result.now ≡ filter (is_surface self.now.cells) (range_with_len 0 self.now.points) }
+    {
+        self.faces.surface()
+    }
+
+    // Cell i, if it is there and live.
+    fn live_cell(&self, i: u32) -> Option<Cell>
+        ensures cell { result ≡ cell_at self.now.cells i }
+    {
+        match self.cells.get(i as usize) {
+            Some(cell) => *cell,
+            None => None,
+        }
+    }
+
+    /// Whether the edit fits.
+    pub fn edit_ok(&self, edit: &Edit) -> bool
+        ensures fits { IsTrue result ↔ Fits self.now edit.now }
+        ensures each { (mesh : MeshView) → IsTopologyOf mesh self.now → IsTrue result ↔ EditFits mesh edit.now }
+    {
+        match *edit {
+            Edit::Point { .. } => self.has_point_room(),
+            Edit::Add { corners } => {
+                self.cells.len() < MOST_CELLS
+                    && self.has_points(corners)
+                    && Cell::new(corners).is_some()
+            }
+            Edit::Remove { cell } => self.live_cell(cell).is_some(),
+            Edit::Split { cell, .. } => {
+                self.live_cell(cell).is_some()
+                    && self.has_point_room()
+                    && self.cells.len() <= MOST_CELLS - 4
+            }
+        }
+    }
+
+    /// Makes the edit, in place, or changes nothing.
+    pub fn edit(&mut self, alloc: Global, edit: &Edit) -> Result<(), NoMemory>
+        requires fits { Fits self.old edit.now }
+        ensures edited { OnOk result ((mesh : MeshView) → IsTopologyOf mesh self.old → IsTopologyOf (edited mesh edit.now) self.new) }
+        ensures err { OnErr result (self.new ≡ self.old) }
+    {
+        match *edit {
+            Edit::Point { .. } => self.push_point(alloc),
+            Edit::Add { corners } => self.push_cell(alloc, cell_of(corners)),
+            Edit::Remove { cell } => {
+                self.remove(cell);
+                Ok(())
+            }
+            Edit::Split { cell, .. } => self.split(alloc, cell),
+        }
+    }
+
+    // Whether one more point is allowed.
+    fn has_point_room(&self) -> bool
+        ensures { IsTrue result ↔ (self.now.points < 1000000) }
+    {
+        (self.points as usize) < MOST_POINTS
+    }
+
+    // Whether the four numbers are points.
+    fn has_points(&self, corners: [u32; 4]) -> bool
+        ensures { IsTrue result ↔ IsWithin self.now.points (corners_of corners) }
+    {
+        let [a, b, c, d] = corners;
+        a < self.points && b < self.points && c < self.points && d < self.points
+    }
+
+    // One point more, which no cell has.
+    fn push_point(&mut self, alloc: Global) -> Result<(), NoMemory>
+        requires { self.old.points < 1000000 }
+        ensures points { OnOk result (self.new.points ≡ self.old.points + 1) }
+        ensures cells { OnOk result (self.new.cells ≡ self.old.cells) }
+        ensures err { OnErr result (self.new ≡ self.old) }
+    {
+        self.faces.put_point(alloc)?;
+        if let Err(refused) = self.edges.put_point(alloc) {
+            self.faces.drop_point();
+            return Err(refused);
+        }
+        self.points += 1;
+        Ok(())
+    }
+
+    // One point less: the last, which no cell has.
+    fn pop_point(&mut self)
+        requires some { 0 < self.old.points }
+        requires free { AreWithin (self.old.points - 1) self.old.cells }
+        ensures points { self.new.points + 1 ≡ self.old.points }
+        ensures cells { self.new.cells ≡ self.old.cells }
+    {
+        self.faces.drop_point();
+        self.edges.drop_point();
+        self.points -= 1;
+    }
+
+    // One cell more, at the end of the list.
+    fn push_cell(&mut self, alloc: Global, cell: Cell) -> Result<(), NoMemory>
+        requires few { length self.old.cells < 4000000 }
+        requires within { IsWithin self.old.points cell }
+        ensures points { self.new.points ≡ self.old.points }
+        ensures cells { OnOk result (self.new.cells ≡ self.old.cells ++ Some cell ∷ []) }
+        ensures err { OnErr result (self.new ≡ self.old) }
+    {
+        let _corners = cell.corners();
+        self.cells.reserve(1)?;
+        self.faces.put_cell(alloc, cell)?;
+        if let Err(refused) = self.edges.put_cell(alloc, cell) {
+            self.faces.take_cell(cell);
+            return Err(refused);
+        }
+        self.cells.push_reserved(Some(cell));
+        Ok(())
+    }
+
+    // The last entry of the list goes.
+    fn pop_cell(&mut self)
+        requires { 0 < length self.old.cells }
+        ensures points { self.new.points ≡ self.old.points }
+        ensures cells { self.new.cells ≡ take (length self.old.cells - 1) self.old.cells }
+    {
+        let last = self.cells.len() - 1;
+        if let Some(popped) = self.cells[last] {
+            self.faces.take_cell(popped);
+            self.edges.take_cell(popped);
+        }
+        self.cells.truncate(last);
+    }
+
+    // The entries from number `len` on go.
+    fn truncate(&mut self, len: usize)
+        requires { len ≤ length self.old.cells }
+        ensures points { self.new.points ≡ self.old.points }
+        ensures cells { self.new.cells ≡ take len self.old.cells }
+    {
+        while self.cells.len() > len {
+            self.pop_cell();
+        }
+    }
+
+    // These cells more, or none of them.
+    fn push_cells(&mut self, alloc: Global, cells: &[Cell]) -> Result<(), NoMemory>
+        requires few { length self.old.cells + length cells.now ≤ 4000000 }
+        requires within { All (IsWithin self.old.points) cells.now }
+        ensures points { self.new.points ≡ self.old.points }
+        ensures cells { OnOk result (self.new.cells ≡ self.old.cells ++ map Some cells.now) }
+        ensures err { OnErr result (self.new ≡ self.old) }
+    {
+        let before = self.cells.len();
+        for cell in cells {
+            if let Err(refused) = self.push_cell(alloc, *cell) {
+                self.truncate(before);
+                return Err(refused);
+            }
+        }
+        Ok(())
+    }
+
+    // Cell i, which is live, becomes absent.
+    fn remove(&mut self, i: u32)
+        requires { IsSome (cell_at self.old.cells i) }
+        ensures points { self.new.points ≡ self.old.points }
+        ensures cells { self.new.cells ≡ slice_set self.old.cells i None }
+    {
+        let removed = self.live_cell(i).unwrap();
+        self.faces.take_cell(removed);
+        self.edges.take_cell(removed);
+        self.cells[i as usize] = None;
+    }
+
+    // Cell i, which is live, becomes absent, and four cells come that have a new point in place of one of its corners.
+    fn split(&mut self, alloc: Global, i: u32) -> Result<(), NoMemory>
+        requires live { IsSome (cell_at self.old.cells i) }
+        requires few_points { self.old.points < 1000000 }
+        requires few_cells { length self.old.cells ≤ 3999996 }
+        ensures points { OnOk result (self.new.points ≡ self.old.points + 1) }
+        ensures cells { OnOk result (IfSome (cell_at self.old.cells i) (λ c. self.new.cells ≡ split_cells self.old.cells self.old.points i c)) }
+        ensures err { OnErr result (self.new ≡ self.old) }
+    {
+        let cell = self.live_cell(i).unwrap();
+        let quarters = quarters_of(self.points, &cell);
+        self.push_point(alloc)?;
+        if let Err(refused) = self.push_cells(alloc, &quarters) {
+            self.pop_point();
+            return Err(refused);
+        }
+        self.remove(i);
+        Ok(())
+    }
+}
