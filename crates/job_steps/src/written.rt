@@ -1,0 +1,32 @@
+//! The mesh of a step.
+ghost use Rattle.std.specs.Prelude.{◌≡◌, ◌<◌, IfOk};
+
+use mesh_base::{CellList, Mesh, NoMemory, PointList};
+use std::alloc::Global;
+use std::marker::Brand;
+use std::sync::ledger::{Blank, Ledger};
+use step_view::{Step, Steps};
+
+// The places of the points, each read once.
+fn places_of<L: Ledger>(alloc: Global, blank: Blank, step: &Step) -> Result<PointList, NoMemory>
+    requires name { blank.name ≡ L.name }
+    requires parts { blank.parts ≡ L.parts }
+    requires some { 0 < L.parts }
+    ensures { IfOk result (λ places. places ≡ step.now.mesh.points) }
+{
+    let mut reads = Steps::<L>::open(blank);
+    let mut places = Vec::with_capacity(alloc, step.points() as usize)?;
+    for v in 0..step.points() {
+        places.push_reserved(step.at(v, &mut reads));
+    }
+    Ok(PointList::of(places))
+}
+
+/// The step's mesh, copied: an absent cell is there as such. It reads each place once.
+pub fn mesh_of(alloc: Global, step: &Step) -> Result<Mesh, NoMemory>
+    ensures { IfOk result (λ mesh. mesh ≡ step.now.mesh) }
+{
+    let places = places_of::<Brand>(alloc, Blank::new(1), step)?;
+    let cells = CellList::of(step.shape().cells().to_vec(alloc)?);
+    Ok(Mesh::new(places, cells).unwrap())
+}
