@@ -1,0 +1,2 @@
+pub mod BestOf
+pub mod EndLaws
