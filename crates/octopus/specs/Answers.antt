@@ -4,9 +4,10 @@ use Rattle.oct_edge.specs.Outside.{Files}
 use Rattle.octopus.specs.declared.early.Early.{Early}
 use Rattle.octopus.specs.declared.early.Early.TheVariants as early
 use Rattle.octopus.specs.declared.early.Output.{Output}
-use Rattle.octopus.specs.declared.status.Status.TheVariants.{Usage, BadMesh}
+use Rattle.octopus.specs.declared.status.Status.{Status}
+use Rattle.octopus.specs.declared.status.Status.TheVariants.{Usage}
 use Rattle.octopus.specs.Due.{Due}
-use Rattle.octopus.specs.Written.{Settles, IsAnswer, IsWhole}
+use Rattle.octopus.specs.Written.{Settles, IsAnswer, IsWhole, IsBadText}
 
 abbrev pub SettlesAs : Due → Output → Type 0
 SettlesAs due output = Settles due output.status output.text.items
@@ -39,6 +40,13 @@ LoadsText due_with rest (Err (early.Refused output)) = IfSome rest (λ text. (go
 LoadsText due_with rest (Err early.Memory) = Unit {0}
 LoadsText due_with rest (Err early.ReadFault) = Unit {0}
 
+-- the same for what needs no file
+abbrev pub Decides : {A : Type 0} → ((A → Due) → Due) → Result A Early → Type 0
+Decides due_with (Ok x) = (go : _ → Due) → due_with go ≡ go x
+Decides due_with (Err (early.Refused output)) = ((go : _ → Due) → SettlesAs (due_with go) output) × IsAnswer output.status
+Decides due_with (Err early.Memory) = Unit {0}
+Decides due_with (Err early.ReadFault) = ⊥
+
 -- a failed read is told only where the folder's faults rose
 abbrev pub IsReadFault : {A : Type 0} → Result A Early → Type 0
 IsReadFault (Ok x) = ⊥
@@ -66,16 +74,22 @@ IsUsage (Err (early.Refused output)) = output.status ≡ Usage
 IsUsage (Err early.Memory) = ⊥
 IsUsage (Err early.ReadFault) = ⊥
 
--- the mesh was refused for a fault of its text
-abbrev pub IsBadMesh : {A : Type 0} → Result A Early → Type 0
-IsBadMesh (Ok x) = ⊥
-IsBadMesh (Err (early.Refused output)) = output.status ≡ BadMesh
-IsBadMesh (Err early.Memory) = ⊥
-IsBadMesh (Err early.ReadFault) = ⊥
+-- the file was read to its end: it was loaded, or refused for a fault of its text
+abbrev pub IsReadWhole : {A : Type 0} → Result A Early → Type 0
+IsReadWhole (Ok x) = Unit {0}
+IsReadWhole (Err (early.Refused output)) = IsBadText output.status
+IsReadWhole (Err early.Memory) = ⊥
+IsReadWhole (Err early.ReadFault) = ⊥
 
--- what is to be written refuses the mesh for a fault of its text
+-- what is to be written refuses a file for a fault of its text
 abbrev pub IsBadAnswer : Result Output Early → Type 0
-IsBadAnswer (Ok output) = output.status ≡ BadMesh
-IsBadAnswer (Err (early.Refused output)) = output.status ≡ BadMesh
+IsBadAnswer (Ok output) = IsBadText output.status
+IsBadAnswer (Err (early.Refused output)) = IsBadText output.status
 IsBadAnswer (Err early.Memory) = ⊥
 IsBadAnswer (Err early.ReadFault) = ⊥
+
+-- it refuses with this status and this text, unless memory ran out
+abbrev pub RefusesWith : Status → List ℕ → Early → Type 0
+RefusesWith status text (early.Refused output) = (output.status ≡ status) × (output.text.items ≡ text)
+RefusesWith status text early.Memory = Unit {0}
+RefusesWith status text early.ReadFault = ⊥

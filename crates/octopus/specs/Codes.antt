@@ -1,7 +1,7 @@
 -- The number that the process ends with.
 use Rattle.std.specs.Prelude.{ℕ}
 use Rattle.octopus.specs.declared.status.Status.{Status}
-use Rattle.octopus.specs.declared.status.Status.TheVariants.{Done, Usage, Memory, ReadFault, WriteFault, TooLong, BadMesh}
+use Rattle.octopus.specs.declared.status.Status.TheVariants.{Done, Usage, Memory, ReadFault, WriteFault, TooLong, BadMesh, BadScript, NoStep}
 
 abbrev pub code_of : Status → ℕ
 code_of Done = 0
@@ -11,3 +11,5 @@ code_of ReadFault = 4
 code_of WriteFault = 5
 code_of TooLong = 6
 code_of BadMesh = 7
+code_of BadScript = 8
+code_of NoStep = 9

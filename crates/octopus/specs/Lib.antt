@@ -5,5 +5,6 @@ pub mod Written
 pub mod Reading
 pub mod Answers
 pub mod Codes
+pub mod Faults
 pub mod Stops
 pub mod Block

@@ -31,14 +31,26 @@ area_from (Some lo) (Some hi) = if is_box lo hi then Some (record { lo = lo; hi 
 area_from (Some lo) None = None
 area_from None hi = None
 
+-- the box of the words MESH x0 y0 z0 x1 y1 z1
+abbrev pub query_of : List (List ℕ) → Option Area
+query_of (mesh ∷ x0 ∷ y0 ∷ z0 ∷ x1 ∷ y1 ∷ z1 ∷ []) = area_from (corner_of x0 y0 z0) (corner_of x1 y1 z1)
+query_of _ = None
+
 abbrev pub scan_on : Option Area → Option Command
 scan_on (Some area) = Some (commands.Scan area)
 scan_on None = None
 
--- the words behind `scan`: MESH x0 y0 z0 x1 y1 z1
+-- the words behind `scan`
 abbrev pub scan_of : List (List ℕ) → Option Command
-scan_of (mesh ∷ x0 ∷ y0 ∷ z0 ∷ x1 ∷ y1 ∷ z1 ∷ []) = scan_on (area_from (corner_of x0 y0 z0) (corner_of x1 y1 z1))
-scan_of _ = None
+scan_of words = scan_on (query_of words)
+
+abbrev pub box_on : Option Area → Option Command
+box_on (Some area) = Some (commands.Box area)
+box_on None = None
+
+-- the words behind `box`
+abbrev pub box_of : List (List ℕ) → Option Command
+box_of words = box_on (query_of words)
 
 -- the word behind `surface`: MESH
 abbrev pub surface_of : List (List ℕ) → Option Command
@@ -59,12 +71,33 @@ abbrev pub gen_of : List (List ℕ) → Option Command
 gen_of (n ∷ []) = side_from (result_ok (count_of n most_side))
 gen_of _ = None
 
+-- the greatest number of a step
+abbrev pub most_step : ℕ
+most_step = 10000
+
+abbrev pub step_on : Option ℕ → Option Command
+step_on (Some k) = Some (commands.Step k)
+step_on None = None
+
+-- the words behind `step`: MESH SCRIPT K, K a count of at most 10,000
+abbrev pub step_of : List (List ℕ) → Option Command
+step_of (mesh ∷ script ∷ k ∷ []) = step_on (result_ok (count_of k most_step))
+step_of _ = None
+
+-- the word behind `upgrade`: SCRIPT
+abbrev pub upgrade_of : List (List ℕ) → Option Command
+upgrade_of (script ∷ []) = Some commands.Upgrade
+upgrade_of _ = None
+
 -- a command by its name and the words behind it
 abbrev pub named : List ℕ → List (List ℕ) → Option Command
 named name rest =
     if bytes_eq name (codes "scan") then scan_of rest
     else if bytes_eq name (codes "surface") then surface_of rest
     else if bytes_eq name (codes "gen") then gen_of rest
+    else if bytes_eq name (codes "step") then step_of rest
+    else if bytes_eq name (codes "upgrade") then upgrade_of rest
+    else if bytes_eq name (codes "box") then box_of rest
     else None
 
 -- the command of the words, if they have a form
@@ -80,6 +113,9 @@ word_at place words = slice_index_or words place []
 abbrev pub HasSide : Command → Type 0
 HasSide (commands.Scan area) = Unit {0}
 HasSide commands.Surface = Unit {0}
+HasSide (commands.Step k) = Unit {0}
+HasSide commands.Upgrade = Unit {0}
+HasSide (commands.Box area) = Unit {0}
 HasSide (commands.Gen n) = (1 ≤ n) × (n ≤ most_side)
 
 -- how many of the words behind the first are names of files
@@ -87,3 +123,6 @@ abbrev pub files_of_command : Command → ℕ
 files_of_command (commands.Scan area) = 1
 files_of_command commands.Surface = 1
 files_of_command (commands.Gen n) = 0
+files_of_command (commands.Step k) = 2
+files_of_command commands.Upgrade = 1
+files_of_command (commands.Box area) = 1

@@ -2,7 +2,7 @@
 use Rattle.std.specs.Prelude.{◌≡◌, ℕ, List, take, Option, Some, None, IsSome, ◌⊎◌}
 use Rattle.std.specs.Io.KnownBytes.{Appends, Keeps}
 use Rattle.octopus.specs.declared.status.Status.{Status}
-use Rattle.octopus.specs.declared.status.Status.TheVariants.{Done, Usage, Memory, ReadFault, WriteFault, TooLong, BadMesh}
+use Rattle.octopus.specs.declared.status.Status.TheVariants.{Done, Usage, Memory, ReadFault, WriteFault, TooLong, BadMesh, BadScript, NoStep}
 use Rattle.octopus.specs.Due.{Due, Missing, Refuse, Text}
 
 -- the status that goes with what is due, where the files are there
@@ -43,6 +43,8 @@ Gives due Done old new = (settled due ≡ Some Done) × Ends due old new
 Gives due Usage old new = (settled due ≡ Some Usage) × Ends due old new
 Gives due TooLong old new = (settled due ≡ Some TooLong) × Ends due old new
 Gives due BadMesh old new = (settled due ≡ Some BadMesh) × Ends due old new
+Gives due BadScript old new = (settled due ≡ Some BadScript) × Ends due old new
+Gives due NoStep old new = (settled due ≡ Some NoStep) × Ends due old new
 
 -- a status that goes with a text that was written whole
 abbrev pub IsWhole : Status → Type 0
@@ -50,6 +52,12 @@ IsWhole Memory = ⊥
 IsWhole ReadFault = ⊥
 IsWhole WriteFault = ⊥
 IsWhole _ = Unit {0}
+
+-- a file was refused for a fault of its text
+abbrev pub IsBadText : Status → Type 0
+IsBadText BadMesh = Unit {0}
+IsBadText BadScript = Unit {0}
+IsBadText _ = ⊥
 
 -- this status and this text are what is due
 pub record Settles (due : Due) (status : Status) (text : List ℕ) : Type 0 where

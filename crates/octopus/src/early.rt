@@ -22,6 +22,15 @@ pub enum Early {
     Refused { output: Output },
 }
 
+/// A refusal by a line.
+pub fn refusal(status: Status, text: Vec<u8>) -> Early
+    ensures { result ≡ Early.Refused (record { status = status; text = text }) }
+{
+    Early::Refused {
+        output: Output { status, text },
+    }
+}
+
 impl From<NoMemory> for Early {
     ghost from_gives = { λ _ e. e ≡ Memory };
 

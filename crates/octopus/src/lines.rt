@@ -1,11 +1,12 @@
 //! The lines that are written.
 ghost use Rattle.std.specs.Prelude.{◌≡◌, ◌++◌, IfOk, OnOk};
 ghost use Rattle.std.specs.Fmt.{decimal};
-ghost use Rattle.octopus.specs.Lines.{usage_line, long_mesh_line, mesh_line, list_text, list_line};
+ghost use Rattle.octopus.specs.Lines.{usage_line, long_mesh_line, mesh_line, long_script_line, script_line, no_step_line, route_word, answer_text, list_text, list_line};
 
 use itoa::Buffer;
-use mesh_base::NoMemory;
+use mesh_base::{NoMemory, Route};
 use oct_text::{put_list, put_text};
+use run_script::ScriptKind;
 use std::alloc::Global;
 use vtk_legacy::MeshKind;
 
@@ -28,14 +29,22 @@ fn put_list_line(alloc: Global, out: &mut Vec<u8>, numbers: &[u32]) -> Result<()
     put_text(alloc, out, b"\n")
 }
 
+/// Appends the number of a list's items, and the items.
+fn put_list_text(alloc: Global, out: &mut Vec<u8>, numbers: &[u32]) -> Result<(), NoMemory>
+    ensures { OnOk result (out.new.items ≡ out.old.items ++ list_text numbers.now) }
+{
+    put_text(alloc, out, b"count ")?;
+    put_count(alloc, out, numbers.len() as u64)?;
+    put_text(alloc, out, b"\n")?;
+    put_list_line(alloc, out, numbers)
+}
+
 /// The number of a list's items, and the items.
 pub fn list_lines(alloc: Global, numbers: &[u32]) -> Result<Vec<u8>, NoMemory>
     ensures { IfOk result (λ text. text.items ≡ list_text numbers.now) }
 {
-    let mut out = b"count ".to_vec(alloc)?;
-    put_count(alloc, &mut out, numbers.len() as u64)?;
-    put_text(alloc, &mut out, b"\n")?;
-    put_list_line(alloc, &mut out, numbers)?;
+    let mut out = Vec::new(alloc);
+    put_list_text(alloc, &mut out, numbers)?;
     Ok(out)
 }
 
@@ -62,5 +71,58 @@ pub fn mesh_refusal(alloc: Global, kind: MeshKind, place: u64) -> Result<Vec<u8>
     put_text(alloc, &mut out, b" ")?;
     put_count(alloc, &mut out, place)?;
     put_text(alloc, &mut out, b"\n")?;
+    Ok(out)
+}
+
+/// The refusal of a script that is too long.
+pub fn long_script_refusal(alloc: Global) -> Result<Vec<u8>, NoMemory>
+    ensures { IfOk result (λ text. text.items ≡ long_script_line) }
+{
+    b"refused long script\n".to_vec(alloc)
+}
+
+/// The refusal of a script by its first fault.
+pub fn script_refusal(alloc: Global, kind: ScriptKind, line: u32) -> Result<Vec<u8>, NoMemory>
+    ensures { IfOk result (λ text. text.items ≡ script_line kind line) }
+{
+    let mut out = b"refused script ".to_vec(alloc)?;
+    put_text(alloc, &mut out, kind.name().as_bytes())?;
+    put_text(alloc, &mut out, b" ")?;
+    put_count(alloc, &mut out, u64::from(line))?;
+    put_text(alloc, &mut out, b"\n")?;
+    Ok(out)
+}
+
+/// The refusal of a step above the last one.
+pub fn no_step_refusal(alloc: Global, step: u32, last: u32) -> Result<Vec<u8>, NoMemory>
+    ensures { IfOk result (λ text. text.items ≡ no_step_line step last) }
+{
+    let mut out = b"refused step ".to_vec(alloc)?;
+    put_count(alloc, &mut out, u64::from(step))?;
+    put_text(alloc, &mut out, b" ")?;
+    put_count(alloc, &mut out, u64::from(last))?;
+    put_text(alloc, &mut out, b"\n")?;
+    Ok(out)
+}
+
+/// How an answer was found, as a word.
+fn name_of_route(route: Route) -> &'static str
+    ensures { result.now ≡ route_word route }
+{
+    match route {
+        Route::Probe => "probe",
+        Route::Walk => "walk",
+        Route::Scan => "scan",
+    }
+}
+
+/// How an answer was found, and its vertices.
+pub fn answer_lines(alloc: Global, route: Route, vertices: &[u32]) -> Result<Vec<u8>, NoMemory>
+    ensures { IfOk result (λ text. text.items ≡ answer_text route vertices.now) }
+{
+    let mut out = b"route ".to_vec(alloc)?;
+    put_text(alloc, &mut out, name_of_route(route).as_bytes())?;
+    put_text(alloc, &mut out, b"\n")?;
+    put_list_text(alloc, &mut out, vertices)?;
     Ok(out)
 }

@@ -2,6 +2,7 @@
 #![tactic(auto)]
 
 mod block;
+mod box_answer;
 mod deliver;
 mod early;
 mod generate;
@@ -10,8 +11,11 @@ mod lines;
 mod mesh_file;
 mod plain;
 mod scan;
+mod script_file;
 mod status;
+mod step;
 mod surface;
+mod upgrade;
 mod words;
 
 use crate::plain::plain;

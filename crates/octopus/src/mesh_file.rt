@@ -4,9 +4,9 @@ ghost use Rattle.std.specs.Io.KnownBytes.{IsAtEnd};
 ghost use Rattle.oct_edge.specs.Causes.{Rose};
 ghost use Rattle.vtk_legacy.specs.Reader.{HasRead, fed_len};
 ghost use Rattle.octopus.specs.Due.{with_mesh};
-ghost use Rattle.octopus.specs.Answers.{Loads, LoadsText, IsReadFault, IsBadMesh};
+ghost use Rattle.octopus.specs.Answers.{Loads, LoadsText, IsReadFault, IsReadWhole};
 
-use crate::early::{Early, Output};
+use crate::early::{Early, refusal};
 use crate::intake::{Intake, feed_file, make_buffer};
 use crate::lines::{long_mesh_refusal, mesh_refusal};
 use crate::status::Status;
@@ -39,25 +39,18 @@ fn read_current<F: Folder>(alloc: Global, folder: &mut F, buf: &mut [u8]) -> Res
     ensures files { F.files folder.new ≡ F.files folder.old }
     ensures later { F.faults folder.old ≤ F.faults folder.new }
     ensures cause { IsReadFault result → Rose (F.faults folder.old) (F.faults folder.new) }
-    ensures read_whole { IsBadMesh result → IsAtEnd (F.rest folder.new) }
+    ensures read_whole { IsReadWhole result → IsAtEnd (F.rest folder.new) }
 {
     let mut reader = MeshReader::new(alloc);
     if !feed_file(alloc, folder, MESH_LIMIT, buf, &mut reader)? {
-        return Err(Early::Refused {
-            output: Output {
-                status: Status::TooLong,
-                text: long_mesh_refusal(alloc)?,
-            },
-        });
+        return Err(refusal(Status::TooLong, long_mesh_refusal(alloc)?));
     }
     match reader.finish(alloc) {
         Ok(mesh) => Ok(mesh),
-        Err(MeshFault::Bad { kind, place }) => Err(Early::Refused {
-            output: Output {
-                status: Status::BadMesh,
-                text: mesh_refusal(alloc, kind, place)?,
-            },
-        }),
+        Err(MeshFault::Bad { kind, place }) => {
+            let line = mesh_refusal(alloc, kind, place)?;
+            Err(refusal(Status::BadMesh, line))
+        }
         Err(MeshFault::NoMemory) => Err(Early::Memory),
     }
 }
@@ -68,7 +61,7 @@ pub fn load_mesh<F: Folder>(alloc: Global, name: &str, folder: &mut F) -> Result
     ensures files { F.files folder.new ≡ F.files folder.old }
     ensures later { F.faults folder.old ≤ F.faults folder.new }
     ensures cause { IsReadFault result → Rose (F.faults folder.old) (F.faults folder.new) }
-    ensures read_whole { IsBadMesh result → IsAtEnd (F.rest folder.new) }
+    ensures read_whole { IsReadWhole result → IsAtEnd (F.rest folder.new) }
 {
     let mut buf = make_buffer(alloc)?;
     match folder.select(name) {

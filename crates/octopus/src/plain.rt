@@ -6,16 +6,19 @@ ghost use Rattle.oct_edge.specs.Causes.{Rose};
 ghost use Rattle.octopus.specs.Words.{command_of};
 ghost use Rattle.octopus.specs.Lines.{usage_line};
 ghost use Rattle.octopus.specs.Due.{Due, Refuse, due, due_of_words};
-ghost use Rattle.octopus.specs.Written.{Gives, IsWhole, settled};
+ghost use Rattle.octopus.specs.Written.{Gives, IsWhole, IsBadText, settled};
 ghost use Rattle.octopus.specs.Answers.{AnswersFor, AnswersAtOnce, SettlesAs, HasWhole, IsUsage, IsReadFault, IsBadAnswer};
 
+use crate::box_answer::run_box;
 use crate::deliver::deliver;
 use crate::early::{Early, Output};
 use crate::generate::run_gen;
 use crate::lines::usage_refusal;
 use crate::scan::run_scan;
 use crate::status::Status;
+use crate::step::run_step;
 use crate::surface::run_surface;
+use crate::upgrade::run_upgrade;
 use crate::words::{Command, read_command};
 use oct_edge::{Folder, Sink};
 use std::alloc::Global;
@@ -48,6 +51,11 @@ fn prepare<F: Folder>(alloc: Global, words: &[String], folder: &mut F) -> Result
         Command::Scan { area } => run_scan(alloc, area, words[1].as_str(), folder),
         Command::Surface => run_surface(alloc, words[1].as_str(), folder),
         Command::Gen { size } => run_gen(alloc, *size),
+        Command::Step { step } => {
+            run_step(alloc, *step, words[1].as_str(), words[2].as_str(), folder)
+        }
+        Command::Upgrade => run_upgrade(alloc, words[1].as_str(), folder),
+        Command::Box { area } => run_box(alloc, area, words[1].as_str(), folder),
     }
 }
 
@@ -68,7 +76,11 @@ fn write_output<K: Sink>(sink: &mut K, output: Output) -> Status
 /// text that is due, or the one line of the refusal that is due. It always returns: a file is read to
 /// its end or to one byte past its limit, in pieces of at most 65,536 bytes.
 ///
-/// Its time is that of reading the files once, and its memory that of the mesh and of the text written.
+/// A script is looked for only once the mesh was accepted.
+///
+/// Its time is that of reading the files once and of the work: for `step` that of each step up to the one that is asked
+/// for, for `box` that of the mesh's tables and of one answer. It holds the mesh with its tables, the bytes of a script
+/// while they are read, and the text written.
 pub fn plain<F: Folder, K: Sink>(
     alloc: Global,
     words: &[String],
@@ -86,7 +98,7 @@ pub fn plain<F: Folder, K: Sink>(
     ensures write_fault { result ≡ Status.WriteFault → Rose (K.faults sink.old) (K.faults sink.new) }
 
     // A file with a fault is read to its end all the same.
-    ensures read_whole { result ≡ Status.BadMesh → IsAtEnd (F.rest folder.new) }
+    ensures read_whole { IsBadText result → IsAtEnd (F.rest folder.new) }
 
     // Where the outside did not fail, the status is what is due, or want of memory.
     ensures complete { IfSome (F.files folder.old) (λ files. ¬ (Rose (F.faults folder.old) (F.faults folder.new)) → ¬ (Rose (K.faults sink.old) (K.faults sink.new)) → (result ≡ Status.Memory) ⊎ (settled (due (map string_bytes words.now) files) ≡ Some result)) }

@@ -19,10 +19,14 @@ pub enum Status {
     TooLong,
     /// The mesh file has a fault.
     BadMesh,
+    /// The script has a fault, by itself or on the mesh.
+    BadScript,
+    /// The step that is asked for is above the last one.
+    NoStep,
 }
 
 impl Status {
-    /// The number that the process ends with, from 0 to 7 without 1.
+    /// The number that the process ends with, from 0 to 9 without 1.
     pub fn code(&self) -> u8
         ensures { result ≡ code_of self.now }
     {
@@ -34,6 +38,8 @@ impl Status {
             Status::WriteFault => 5,
             Status::TooLong => 6,
             Status::BadMesh => 7,
+            Status::BadScript => 8,
+            Status::NoStep => 9,
         }
     }
 }

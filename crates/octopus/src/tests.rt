@@ -1,5 +1,9 @@
 //! Whole runs over files and a sink in memory.
 
+mod boxes;
+mod scripts;
+mod steps;
+
 use crate::block::block_mesh;
 use crate::plain::plain;
 use crate::status::Status;
@@ -106,18 +110,107 @@ CELL_TYPES 6
 10
 ";
 
+/// Two splits, and a box.
+const SPLITS: &str = "octopus script 1
+split 0 4 4 4
+split 2 2 6 3
+stay
+session
+box 4 4 4 4 4 4
+end
+";
+
+/// Three steps, and a box on the last one.
+const THREE_SHIFTS: &str = "octopus script 1
+shift 1 0 0
+shift 1 0 0
+shift 1 0 0
+session
+wait 3
+box 3 0 0 7 0 0
+end
+";
+
+/// The same in version 2.
+const THREE_SHIFTS_2: &str = "octopus script 2
+shift 1 0 0
+shift 1 0 0
+shift 1 0 0
+session
+wait 3
+box 3 0 0 7 0 0
+end
+";
+
+/// The mesh of its step 3 on `ONE`.
+const MOVED_THRICE: &str = "# vtk DataFile Version 3.0
+octopus mesh
+ASCII
+DATASET UNSTRUCTURED_GRID
+POINTS 4 int
+3 0 0
+7 0 0
+3 4 0
+3 0 4
+CELLS 1 5
+4 0 1 2 3
+CELL_TYPES 1
+10
+";
+
+/// The mesh of step 1 of `SPLITS`, on a cell with edges of 16.
+const SPLIT_TWICE: &str = "# vtk DataFile Version 3.0
+octopus mesh
+ASCII
+DATASET UNSTRUCTURED_GRID
+POINTS 6 int
+0 0 0
+16 0 0
+0 16 0
+0 0 16
+4 4 4
+2 6 3
+CELLS 7 35
+4 4 1 2 3
+4 0 1 4 3
+4 0 1 2 4
+4 5 4 2 3
+4 0 5 2 3
+4 0 4 5 3
+4 0 4 2 5
+CELL_TYPES 7
+10
+10
+10
+10
+10
+10
+10
+";
+
 const SCAN: &str = "scan one.vtk 0 0 0 4 0 0";
 
 const FOUND: &[u8] = b"count 2\n0 1\n";
 
+/// A folder with these files, of which the calls with these numbers fail.
+fn named_files(
+    alloc: Global,
+    named: &[(&str, &[u8])],
+    failing: &[u64],
+) -> Result<MemFolder, NoMemory> {
+    let mut files = Vec::new(alloc);
+    for (name, text) in named {
+        files.push(NamedFile {
+            name: ByteList::of(name.as_bytes().to_vec(alloc)?),
+            bytes: ByteList::of(text.to_vec(alloc)?),
+        })?;
+    }
+    Ok(MemFolder::new(FileList::of(files), CallList::of(failing.to_vec(alloc)?)))
+}
+
 /// A folder with the one file `one.vtk`.
 fn folder(alloc: Global, text: &str, failing: &[u64]) -> Result<MemFolder, NoMemory> {
-    let mut files = Vec::new(alloc);
-    files.push(NamedFile {
-        name: ByteList::of(b"one.vtk".to_vec(alloc)?),
-        bytes: ByteList::of(text.as_bytes().to_vec(alloc)?),
-    })?;
-    Ok(MemFolder::new(FileList::of(files), CallList::of(failing.to_vec(alloc)?)))
+    named_files(alloc, &[("one.vtk", text.as_bytes())], failing)
 }
 
 fn sink(alloc: Global, failing: &[u64]) -> Result<MemSink, NoMemory> {
@@ -180,45 +273,71 @@ fn each_answer(rt: HostRuntime) -> Result<(), Fail> {
     Ok(())
 }
 
-/// The calls on the folder are the selection, 20 reads of at most 7 bytes, and the read at the end.
+/// The commands, how many calls on the folder each makes until it has read its files, and what it writes. Of a file of 136
+/// bytes there are the selection, 20 reads of at most 7 bytes, and the read at the end; of one of 88 bytes 13 reads.
+const CALLS: [(&str, u64, &str); 5] = [
+    (SCAN, 22, "count 2\n0 1\n"),
+    ("surface one.vtk", 22, "count 4\n0 1 2 3\n"),
+    ("box one.vtk 0 0 0 4 0 0", 22, "route probe\ncount 2\n0 1\n"),
+    ("step one.vtk s.txt 3", 37, MOVED_THRICE),
+    ("upgrade s.txt", 15, THREE_SHIFTS_2),
+];
+
 #[test]
 fn each_read_fails_in_turn(rt: HostRuntime) -> Result<(), Fail> {
     let alloc = rt.alloc();
-    let line = words(alloc, SCAN)?;
-    for call in 0..24u64 {
-        let mut from = folder(alloc, ONE, &[call])?.with_most(7);
-        let mut to = sink(alloc, &[])?;
-        let got = plain(alloc, &line, &mut from, &mut to);
-        if call < 22 {
-            assert_eq!(rt; got, Status::ReadFault, "call {call}");
-            assert_eq!(rt; to.bytes(), b"".as_slice(), "call {call}");
-        } else {
-            assert_eq!(rt; got, Status::Done, "call {call}");
-            assert_eq!(rt; to.bytes(), FOUND, "call {call}");
+    let files = [
+        ("one.vtk", ONE.as_bytes()),
+        ("s.txt", THREE_SHIFTS.as_bytes()),
+    ];
+    for (line, calls, text) in CALLS {
+        let line_words = words(alloc, line)?;
+        for call in 0..40u64 {
+            let mut from = named_files(alloc, &files, &[call])?.with_most(7);
+            let mut to = sink(alloc, &[])?;
+            let got = plain(alloc, &line_words, &mut from, &mut to);
+            if call < calls {
+                assert_eq!(rt; got, Status::ReadFault, "call {call} of `{line}`");
+                assert_eq!(rt; to.bytes(), b"".as_slice(), "call {call} of `{line}`");
+            } else {
+                assert_eq!(rt; got, Status::Done, "call {call} of `{line}`");
+                assert_eq!(rt; to.bytes(), text.as_bytes(), "call {call} of `{line}`");
+            }
         }
     }
     Ok(())
 }
 
-/// The text of 12 bytes goes out in a write of 7 bytes and one of 5.
+/// A text goes out in writes of at most 7 bytes.
 #[test]
 fn each_write_fails_in_turn(rt: HostRuntime) -> Result<(), Fail> {
     let alloc = rt.alloc();
-    let line = words(alloc, SCAN)?;
-    let table: [(u64, Status, &[u8]); 3] = [
-        (0, Status::WriteFault, b""),
-        (1, Status::WriteFault, b"count 2"),
-        (2, Status::Done, FOUND),
+    let files = [
+        ("one.vtk", ONE.as_bytes()),
+        ("s.txt", THREE_SHIFTS.as_bytes()),
     ];
-    for (call, status, written) in table {
-        let mut from = folder(alloc, ONE, &[])?;
-        let mut to = sink(alloc, &[call])?.with_most(7);
-        assert_eq!(rt;
-            plain(alloc, &line, &mut from, &mut to),
-            status,
-            "call {call}"
-        );
-        assert_eq!(rt; to.bytes(), written, "call {call}");
+    for (line, _, text) in CALLS {
+        let line_words = words(alloc, line)?;
+        for call in 0..30u64 {
+            let mut from = named_files(alloc, &files, &[])?;
+            let mut to = sink(alloc, &[call])?.with_most(7);
+            let got = plain(alloc, &line_words, &mut from, &mut to);
+            if 7 * call < text.len() as u64 {
+                assert_eq!(rt; got, Status::WriteFault, "call {call} of `{line}`");
+                assert_eq!(rt;
+                    to.bytes().len() as u64,
+                    7 * call,
+                    "call {call} of `{line}`"
+                );
+                assert!(rt;
+                    text.as_bytes().starts_with(to.bytes()),
+                    "call {call} of `{line}`"
+                );
+            } else {
+                assert_eq!(rt; got, Status::Done, "call {call} of `{line}`");
+                assert_eq!(rt; to.bytes(), text.as_bytes(), "call {call} of `{line}`");
+            }
+        }
     }
     Ok(())
 }
