@@ -8,22 +8,9 @@
 # take it out again, and print the same number of surface vertices.
 set -eu
 here=$(cd "$(dirname "$0")" && pwd)
-top=$(cd "$here/../.." && pwd)
-work=$(mktemp -d)
-trap 'rm -rf "$work"' EXIT
-mkdir -p "$work/crates/time_faces/src"
-for crate in mesh_base face_table; do
-    mkdir "$work/crates/$crate"
-    for part in src specs proofs out; do
-        if [ -e "$top/crates/$crate/$part" ]; then cp -r "$top/crates/$crate/$part" "$work/crates/$crate/"; fi
-    done
-done
-cat > "$work/crates.txt" <<'EOF'
-mesh_base:
-face_table: mesh_base indexmap
-time_faces: mesh_base face_table
-EOF
-program=$work/crates/time_faces
+. "$here/../parts.sh"
+take_crates mesh_base face_table
+new_program time_faces mesh_base face_table
 cat > "$program/src/main.rt" <<'EOF'
 //! Times the table of faces.
 #![tactic(auto)]
@@ -34,51 +21,11 @@ ghost use Rattle.mesh_base.specs.Mesh.{IsWithin};
 ghost use Rattle.face_table.specs.Tally.{IsTallyOf};
 
 use face_table::FaceTable;
-use mesh_base::{Cell, CellList, MOST_CELLS, Mesh, Point, PointList};
+use mesh_base::{Cell, CellList, MOST_CELLS, Mesh, NoMemory, Point, PointList};
 use std::alloc::{AllocError, Global};
 use std::fs;
 use std::io;
 use std::time::Instant;
-
-fn cube(p: u32, y: u32, z: u32) -> [[u32; 4]; 6] {
-    let x = p.wrapping_add(1);
-    let xy = x.wrapping_add(y);
-    let xz = x.wrapping_add(z);
-    let yz = p.wrapping_add(y).wrapping_add(z);
-    let q = xy.wrapping_add(z);
-    let y = p.wrapping_add(y);
-    let z = p.wrapping_add(z);
-    [
-        [p, x, xy, q],
-        [p, x, xz, q],
-        [p, y, xy, q],
-        [p, y, yz, q],
-        [p, z, xz, q],
-        [p, z, yz, q],
-    ]
-}
-
-fn push_cube(cells: &mut Vec<Option<Cell>>, corners: &[[u32; 4]]) -> Result<(), AllocError> {
-    for four in corners {
-        cells.push(Cell::new(*four))?;
-    }
-    Ok(())
-}
-
-fn block(alloc: Global, n: u32) -> Result<Vec<Option<Cell>>, AllocError> {
-    let mut cells = Vec::new(alloc);
-    let y = n.wrapping_add(1);
-    let z = y.wrapping_mul(y);
-    for k in 0..n {
-        for j in 0..n {
-            for i in 0..n {
-                let p = i.wrapping_add(y.wrapping_mul(j)).wrapping_add(z.wrapping_mul(k));
-                push_cube(&mut cells, &cube(p, y, z))?;
-            }
-        }
-    }
-    Ok(cells)
-}
 
 fn places(alloc: Global, n: u32) -> Result<Vec<Point>, AllocError> {
     let side = n.wrapping_add(1);
@@ -226,6 +173,7 @@ SIZES
     Ok(())
 }
 EOF
+block_functions >> "$program/src/main.rt"
 sizes=${*:-40 80}
 for n in $sizes; do printf '    run(&rt, %d)?;\n' "$n"; done > "$work/sizes"
 sed -i -e "/^SIZES\$/{r $work/sizes
@@ -243,12 +191,9 @@ EOF
 }
 invariant put_many
 invariant take_many
-g++ -O2 -std=c++17 -o "$work/peer_faces" "$here/peer_faces.cpp"
-if ! (cd "$program" && rt run) > "$work/log" 2>&1; then
-    cat "$work/log"
-    exit 1
-fi
+build_peer "$here/peer_faces.cpp"
+build_program
 # Each program once more, now that nothing else of this script runs.
 "$program/out/time_faces"
-for n in 20 $sizes; do "$work/peer_faces" sorted "$n"; done
-for n in 20 $sizes; do "$work/peer_faces" hashed "$n"; done
+for n in 20 $sizes; do "$work/peer" sorted "$n"; done
+for n in 20 $sizes; do "$work/peer" hashed "$n"; done

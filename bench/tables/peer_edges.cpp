@@ -1,4 +1,5 @@
 // Neighbours with counts in C++: sorted vectors, and an unordered_map for each point.
+#include "block.hpp"
 #include <algorithm>
 #include <array>
 #include <chrono>
@@ -8,8 +9,6 @@
 #include <cstring>
 #include <unordered_map>
 #include <vector>
-
-using Cell = std::array<uint32_t, 4>;
 
 struct Sorted {
     struct Row {
@@ -71,19 +70,6 @@ template <class Table> void take_cell(Table &table, const Cell &cell) {
             if (v != w) table.take(v, w);
 }
 
-std::vector<Cell> block(uint32_t n) {
-    std::vector<Cell> cells;
-    uint32_t y = n + 1, z = y * y;
-    for (uint32_t k = 0; k < n; k++)
-        for (uint32_t j = 0; j < n; j++)
-            for (uint32_t i = 0; i < n; i++) {
-                uint32_t p = i + y * j + z * k, q = p + 1 + y + z;
-                const uint32_t steps[6][2] = {{1, y}, {1, z}, {y, 1}, {y, z}, {z, 1}, {z, y}};
-                for (auto &s : steps) cells.push_back({p, p + s[0], p + s[0] + s[1], q});
-            }
-    return cells;
-}
-
 size_t resident() {
     long pages = 0;
     if (FILE *file = std::fopen("/proc/self/statm", "r")) {
@@ -98,7 +84,7 @@ template <class Table> void run(const char *name, uint32_t n) {
     auto since = [](Clock::time_point start) {
         return std::chrono::duration_cast<std::chrono::nanoseconds>(Clock::now() - start).count();
     };
-    std::vector<Cell> cells = block(n);
+    std::vector<Cell> cells = block_cells(n);
     size_t points = size_t(n + 1) * (n + 1) * (n + 1), count = cells.size() / 6;
     size_t before = resident();
     auto start = Clock::now();
