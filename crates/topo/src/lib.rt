@@ -1,6 +1,6 @@
 //! What a mesh is without the places of its points: how many there are, the cells, the surface and the neighbours.
 //!
-//! A `Topo` is changed by edits, in place: an edit costs what its cells cost, whatever the size of the mesh. A `Shape` is a
+//! A `Topo` is changed by edits, in place: an edit costs what its cells cost, and nothing is counted anew. A `Shape` is a
 //! `Topo` as it was once, and never changes: steps of a run share it. `Positions` are the places of the points, and never
 //! change either.
 //!

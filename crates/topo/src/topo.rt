@@ -127,9 +127,10 @@ impl Topo {
 
     /// Makes the edit, in place. After NoMemory the topology is as it was.
     ///
-    /// It costs what the puts and the takes of its cells cost in the tables of faces and of neighbours, whatever the size of
-    /// the mesh: one for a new cell and for one that goes, five for a split. It takes memory only where a list or a table has
-    /// to grow. A split that is refused memory halfway takes back what it put in.
+    /// It costs what the puts and the takes of its cells cost in the tables of faces and of neighbours: one for a new cell and
+    /// for one that goes, five for a split. A vertex that comes to the surface or leaves it also moves what stands behind it in
+    /// the list of the surface, and the corners of a split cell do both. It takes memory only where a list or a table has to
+    /// grow. A split that is refused memory halfway takes back what it put in.
     pub fn edit(&mut self, alloc: Global, edit: &Edit) -> Result<(), NoMemory>
         requires fits { Fits self.old edit.now }
         ensures edited { OnOk result ((mesh : MeshView) → IsTopologyOf mesh self.old → IsTopologyOf (edited mesh edit.now) self.new) }
