@@ -1,3 +1,4 @@
 pub mod Examples
 pub mod CheckLemmas
 pub mod JobLemmas
+pub mod LawLemmas

@@ -5,3 +5,4 @@ pub mod Scripts
 pub mod Jobs
 pub mod Checking
 pub mod Turns
+pub mod Asks

@@ -11,7 +11,7 @@ mod turns;
 
 pub use fault::{ScriptFault, ScriptKind};
 pub use job::{AreaList, Job, SessionTurn};
-pub use laws::edits_without_fault_fit;
+pub use laws::{edits_without_fault_are_those_that_fit, turns_have_the_boxes_in_order};
 pub use lists::{EditList, ItemList, PlanList, SessionList};
 pub use script::{Item, LinedEdit, Plan, Script};
 

@@ -16,6 +16,15 @@ fn sample(rt: &impl Abort, alloc: Global) -> Result<Mesh, AllocError> {
     Ok(mesh.expect(rt, "a mesh"))
 }
 
+fn may_be_shared<T: Send + Sync>() {}
+
+// Threads may share a job.
+#[test]
+fn threads_may_share_a_job(_rt: HostRuntime) -> Result<(), Fail> {
+    may_be_shared::<Job>();
+    Ok(())
+}
+
 #[test]
 fn an_empty_script_makes_a_job(rt: HostRuntime) -> Result<(), Fail> {
     let alloc = rt.alloc();
