@@ -4,6 +4,10 @@ use Rattle.std.specs.List.{range_with_len}
 use Rattle.mesh_base.specs.Place.{Place}
 use Rattle.mesh_base.specs.Mesh.{Corners, MeshView}
 
+-- the most cubes along a side of a block
+abbrev pub most_side : ℕ
+most_side = 87
+
 -- Number v of a cube of numbers with this side has these places on the axes: x rises fastest, then y, then z.
 abbrev pub on_x : ℕ → ℕ → ℕ
 on_x side v = v % side

@@ -13,16 +13,16 @@ use Rattle.script_format.specs.Printed.{script_spelling}
 use Rattle.run_script.specs.Jobs.{JobView, steps, step_at, checked}
 use Rattle.octopus.specs.declared.words.Command.{Command}
 use Rattle.octopus.specs.declared.words.Command.TheVariants.{Scan, Surface, Gen, Step, Upgrade, Box}
-use Rattle.octopus.specs.declared.status.Status.{Status}
-use Rattle.octopus.specs.declared.status.Status.TheVariants.{Usage, TooLong, BadMesh, BadScript, NoStep}
+use Rattle.octopus.specs.declared.refusal.Refusal.{Refusal}
+use Rattle.octopus.specs.declared.refusal.Refusal.TheVariants as refusals
 use Rattle.octopus.specs.Block.{block}
-use Rattle.octopus.specs.Words.{command_of, word_at}
-use Rattle.octopus.specs.Lines.{usage_line, long_mesh_line, mesh_line, long_script_line, script_line, no_step_line, list_text, answer_text}
+use Rattle.octopus.specs.Words.{command_of}
+use Rattle.octopus.specs.Lines.{list_text, answer_text}
 
--- a file that is not there, a refusal with its status and its line, or a text
+-- a file that is not there, a refusal, or a text
 pub data Due : Type 0 where
   Missing : Due
-  Refuse : Status → List ℕ → Due
+  Refuse : Refusal → Due
   Text : List ℕ → Due
 
 -- the most bytes of a mesh file
@@ -31,12 +31,12 @@ mesh_limit = 2 ^ 30
 
 abbrev pub on_mesh : Result MeshView Fault → (MeshView → Due) → Due
 on_mesh (Ok mesh) go = go mesh
-on_mesh (Err fault) go = Refuse BadMesh (mesh_line fault.kind fault.place)
+on_mesh (Err fault) go = Refuse (refusals.Mesh fault.kind fault.place)
 
 -- what is due for a mesh file, where `go` says it of the mesh: first its length counts, then its first fault
 abbrev pub with_mesh : Option (List ℕ) → (MeshView → Due) → Due
 with_mesh None go = Missing
-with_mesh (Some text) go = if nat_lt mesh_limit (length text) then Refuse TooLong long_mesh_line else on_mesh (mesh_text text) go
+with_mesh (Some text) go = if nat_lt mesh_limit (length text) then Refuse refusals.LongMesh else on_mesh (mesh_text text) go
 
 -- the most bytes of a script
 abbrev pub script_limit : ℕ
@@ -44,41 +44,41 @@ script_limit = 2 ^ 26
 
 abbrev pub on_script : {A : Type 0} → Result A scripts.Fault → (A → Due) → Due
 on_script (Ok script) go = go script
-on_script (Err fault) go = Refuse BadScript (script_line fault.kind fault.line)
+on_script (Err fault) go = Refuse (refusals.Script fault.kind fault.line)
 
 -- what is due for a script, where `go` says it of what the script says
 abbrev pub with_script : Option (List ℕ) → (ScriptView → Due) → Due
 with_script None go = Missing
-with_script (Some text) go = if nat_lt script_limit (length text) then Refuse TooLong long_script_line else on_script (script_text text) go
+with_script (Some text) go = if nat_lt script_limit (length text) then Refuse refusals.LongScript else on_script (script_text text) go
+
+-- what is due for a mesh file and a script, where `go` says it of the job: the script counts once the mesh is accepted
+abbrev pub with_job : Option (List ℕ) → Option (List ℕ) → (JobView → Due) → Due
+with_job mesh_file script_file go = with_mesh mesh_file (λ mesh. with_script script_file (λ script. on_script (checked mesh script) go))
 
 -- what is due for step k of a job
 abbrev pub step_due : ℕ → JobView → Due
-step_due k job = if nat_lt (steps job) k then Refuse NoStep (no_step_line k (steps job)) else Text (mesh_spelling (step_at job k))
+step_due k job = if nat_lt (steps job) k then Refuse (refusals.NoStep k (steps job)) else Text (mesh_spelling (step_at job k))
 
 -- the script in version 2
 abbrev pub upgraded : ScriptView → ScriptView
 upgraded script = record script { version = 2 }
 
-abbrev pub due_of : Option Command → List (List ℕ) → Files → Due
-due_of None words files = Refuse Usage usage_line
-due_of (Some (Scan area)) words files = with_mesh (files (word_at 1 words)) (λ mesh. Text (list_text (scan mesh area)))
-due_of (Some Surface) words files = with_mesh (files (word_at 1 words)) (λ mesh. Text (list_text (surface mesh)))
-due_of (Some (Gen n)) words files = Text (mesh_spelling (block n))
-due_of (Some (Step k)) words files =
-    with_mesh (files (word_at 1 words)) (λ mesh. with_script (files (word_at 2 words)) (λ script. on_script (checked mesh script) (step_due k)))
-due_of (Some Upgrade) words files = with_script (files (word_at 1 words)) (λ script. Text (script_spelling (upgraded script)))
-due_of (Some (Box area)) words files = with_mesh (files (word_at 1 words)) (λ mesh. Text (answer_text (route mesh area) (answer mesh area)))
+-- what is due for a command, where its files are named by their bytes
+abbrev pub due_of : Option (Command (List ℕ)) → Files → Due
+due_of None files = Refuse refusals.Usage
+due_of (Some (Scan name area)) files = with_mesh (files name) (λ mesh. Text (list_text (scan mesh area)))
+due_of (Some (Surface name)) files = with_mesh (files name) (λ mesh. Text (list_text (surface mesh)))
+due_of (Some (Gen side)) files = Text (mesh_spelling (block side))
+due_of (Some (Step name script k)) files = with_job (files name) (files script) (step_due k)
+due_of (Some (Upgrade name)) files = with_script (files name) (λ script. Text (script_spelling (upgraded script)))
+due_of (Some (Box name area)) files = with_mesh (files name) (λ mesh. Text (answer_text (route mesh area) (answer mesh area)))
 
 -- what is due for these words and these files
 unfoldable pub due : List (List ℕ) → Files → Due
-due words files = due_of (command_of words) words files
+due words files = due_of (command_of words) files
 
 -- what is due whatever the files are, where the words alone decide
-abbrev pub due_of_words : Option Command → Option Due
-due_of_words None = Some (Refuse Usage usage_line)
-due_of_words (Some (Scan area)) = None
-due_of_words (Some Surface) = None
-due_of_words (Some (Gen n)) = Some (Text (mesh_spelling (block n)))
-due_of_words (Some (Step k)) = None
-due_of_words (Some Upgrade) = None
-due_of_words (Some (Box area)) = None
+abbrev pub due_of_words : Option (Command (List ℕ)) → Option Due
+due_of_words None = Some (Refuse refusals.Usage)
+due_of_words (Some (Gen side)) = Some (Text (mesh_spelling (block side)))
+due_of_words (Some _) = None

@@ -1,10 +1,9 @@
 pub mod Words
 pub mod Lines
+pub mod Refusals
 pub mod Due
 pub mod Written
 pub mod Reading
-pub mod Answers
+pub mod Outcomes
 pub mod Codes
-pub mod Faults
-pub mod Stops
 pub mod Block

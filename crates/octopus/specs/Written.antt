@@ -3,18 +3,19 @@ use Rattle.std.specs.Prelude.{◌≡◌, ℕ, List, take, Option, Some, None, Is
 use Rattle.std.specs.Io.KnownBytes.{Appends, Keeps}
 use Rattle.octopus.specs.declared.status.Status.{Status}
 use Rattle.octopus.specs.declared.status.Status.TheVariants.{Done, Usage, Memory, ReadFault, WriteFault, TooLong, BadMesh, BadScript, NoStep}
+use Rattle.octopus.specs.Refusals.{status_of_refusal, refusal_line}
 use Rattle.octopus.specs.Due.{Due, Missing, Refuse, Text}
 
 -- the status that goes with what is due, where the files are there
 abbrev pub settled : Due → Option Status
 settled Missing = None
-settled (Refuse status line) = Some status
+settled (Refuse why) = Some (status_of_refusal why)
 settled (Text text) = Some Done
 
 -- x is the text that is due
 abbrev pub Spells : Due → List ℕ → Type 0
 Spells Missing x = ⊥
-Spells (Refuse status line) x = x ≡ line
+Spells (Refuse why) x = x ≡ refusal_line why
 Spells (Text text) x = x ≡ text
 
 -- the whole of a text that is due was added
@@ -46,29 +47,8 @@ Gives due BadMesh old new = (settled due ≡ Some BadMesh) × Ends due old new
 Gives due BadScript old new = (settled due ≡ Some BadScript) × Ends due old new
 Gives due NoStep old new = (settled due ≡ Some NoStep) × Ends due old new
 
--- a status that goes with a text that was written whole
-abbrev pub IsWhole : Status → Type 0
-IsWhole Memory = ⊥
-IsWhole ReadFault = ⊥
-IsWhole WriteFault = ⊥
-IsWhole _ = Unit {0}
-
 -- a file was refused for a fault of its text
 abbrev pub IsBadText : Status → Type 0
 IsBadText BadMesh = Unit {0}
 IsBadText BadScript = Unit {0}
 IsBadText _ = ⊥
-
--- this status and this text are what is due
-pub record Settles (due : Due) (status : Status) (text : List ℕ) : Type 0 where
-  pub whole : IsWhole status
-  pub due_is : settled due ≡ Some status
-  pub spelled : Spells due text
-
--- a status that a command may answer once its words have a form
-abbrev pub IsAnswer : Status → Type 0
-IsAnswer Memory = ⊥
-IsAnswer ReadFault = ⊥
-IsAnswer WriteFault = ⊥
-IsAnswer Usage = ⊥
-IsAnswer _ = Unit {0}

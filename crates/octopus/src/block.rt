@@ -1,16 +1,55 @@
 //! The block of cubes.
-ghost use Rattle.std.specs.Prelude.{◌≡◌, ◌<◌, ◌≤◌, ◌+◌, ◌*◌, IfOk, Some, map};
+ghost use Rattle.std.specs.Prelude.{◌≡◌, ◌<◌, ◌≤◌, ◌+◌, ◌*◌, ℕ, IfOk, Some, None, map, nat_le, if◌then◌else◌};
 ghost use Rattle.std.specs.List.{range_with_len};
 ghost use Rattle.mesh_base.specs.Mesh.{IsWithin, AreWithin, AreDifferent, AreAllDifferent};
-ghost use Rattle.octopus.specs.Block.{block, block_cell, cubed, first_step, grid_place, low_corner, on_x, on_y, on_z, path_cell, second_step};
+ghost use Rattle.octopus.specs.Block.{block, block_cell, cubed, first_step, grid_place, low_corner, most_side, on_x, on_y, on_z, path_cell, second_step};
 
 use mesh_base::{Cell, CellList, Mesh, NoMemory, Point, PointList};
 use std::alloc::Global;
+use std::marker::Model;
 
 /// The most cubes along a side, so that the points of a block fit a mesh.
 pub const MOST_SIDE: u32 = 87;
 
-/// The point with this number, where there are `side` points along a side.
+/// How many cubes a block has along a side, from 1 to 87.
+#[derive(Clone, Copy, Debug, PartialEq, Eq)]
+pub struct Side {
+    cubes: u32,
+}
+
+impl Model for Side {
+    ghost Value = { ℕ };
+
+    ghost view = { λ side. side.cubes };
+
+    ghost invariant = { λ side. (1 ≤ side.cubes) × (side.cubes ≤ most_side) };
+
+    ghost inverse = { λ n. record { cubes = n } };
+}
+
+impl Side {
+    /// So many cubes, or `None` where there are none. There are at most 87.
+    pub fn new(cubes: u32) -> Option<Side>
+        requires { cubes ≤ most_side }
+        ensures { result ≡ (if nat_le 1 cubes then Some cubes else None) }
+    {
+        if cubes >= 1 {
+            Some(Side { cubes })
+        } else {
+            None
+        }
+    }
+
+    /// The number of cubes along a side.
+    pub fn cubes(self) -> u32
+        ensures number { result ≡ self }
+        ensures range { (1 ≤ result) × (result ≤ most_side) }
+    {
+        self.cubes
+    }
+}
+
+// The point with this number, where there are `side` points along a side.
 fn grid_point(side: u32, v: u32) -> Point
     requires side { (0 < side) × (side ≤ 88) }
     requires number { v < cubed side }
@@ -25,7 +64,7 @@ fn grid_point(side: u32, v: u32) -> Point
     }
 }
 
-/// How far the number of a point rises along the two axes of a pair.
+// How far the number of a point rises along the two axes of a pair.
 fn pair_steps(side: u32, pair: u32) -> (u32, u32)
     requires side { (0 < side) × (side ≤ 88) }
     requires pair { pair < 6 }
@@ -44,7 +83,7 @@ fn pair_steps(side: u32, pair: u32) -> (u32, u32)
     }
 }
 
-/// The low corner of a cube.
+// The low corner of a cube.
 fn low_corner_of(n: u32, cube: u32) -> u32
     requires side { (0 < n) × (n ≤ 87) }
     requires number { cube < cubed n }
@@ -55,7 +94,7 @@ fn low_corner_of(n: u32, cube: u32) -> u32
     cube % n + cube / n % n * side + cube / (n * n) * (side * side)
 }
 
-/// The cell with this number, where there are n cubes along a side.
+// The cell with this number, where there are n cubes along a side.
 fn cell_at(n: u32, t: u32) -> Cell
     requires side { (0 < n) × (n ≤ 87) }
     requires number { t < 6 * cubed n }

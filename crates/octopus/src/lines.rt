@@ -1,16 +1,14 @@
 //! The lines that are written.
-ghost use Rattle.std.specs.Prelude.{◌≡◌, ◌++◌, IfOk, OnOk};
+ghost use Rattle.std.specs.Prelude.{◌≡◌, ◌++◌, ◌∷◌, [], IfOk, OnOk};
 ghost use Rattle.std.specs.Fmt.{decimal};
-ghost use Rattle.octopus.specs.Lines.{usage_line, long_mesh_line, mesh_line, long_script_line, script_line, no_step_line, route_word, answer_text, list_text, list_line};
+ghost use Rattle.octopus.specs.Lines.{line, no_step_line, route_word, answer_text, list_text, list_line};
 
 use itoa::Buffer;
 use mesh_base::{NoMemory, Route};
 use oct_text::{put_list, put_text};
-use run_script::ScriptKind;
 use std::alloc::Global;
-use vtk_legacy::MeshKind;
 
-/// Appends a count or a place.
+// Appends a count or a place.
 fn put_count(alloc: Global, out: &mut Vec<u8>, value: u64) -> Result<(), NoMemory>
     ensures { OnOk result (out.new.items ≡ out.old.items ++ decimal value) }
 {
@@ -18,7 +16,7 @@ fn put_count(alloc: Global, out: &mut Vec<u8>, value: u64) -> Result<(), NoMemor
     put_text(alloc, out, buffer.format(value).as_bytes())
 }
 
-/// Appends a line of numbers, or nothing where there are none.
+// Appends a line of numbers, or nothing where there are none.
 fn put_list_line(alloc: Global, out: &mut Vec<u8>, numbers: &[u32]) -> Result<(), NoMemory>
     ensures { OnOk result (out.new.items ≡ out.old.items ++ list_line numbers.now) }
 {
@@ -29,7 +27,7 @@ fn put_list_line(alloc: Global, out: &mut Vec<u8>, numbers: &[u32]) -> Result<()
     put_text(alloc, out, b"\n")
 }
 
-/// Appends the number of a list's items, and the items.
+// Appends the number of a list's items, and the items.
 fn put_list_text(alloc: Global, out: &mut Vec<u8>, numbers: &[u32]) -> Result<(), NoMemory>
     ensures { OnOk result (out.new.items ≡ out.old.items ++ list_text numbers.now) }
 {
@@ -48,53 +46,20 @@ pub fn list_lines(alloc: Global, numbers: &[u32]) -> Result<Vec<u8>, NoMemory>
     Ok(out)
 }
 
-/// The refusal of words without a form.
-pub fn usage_refusal(alloc: Global) -> Result<Vec<u8>, NoMemory>
-    ensures { IfOk result (λ text. text.items ≡ usage_line) }
+/// The line of a fault: what is refused, the fault's name, and where it is.
+pub fn fault_line(alloc: Global, front: &[u8], name: &str, place: u64) -> Result<Vec<u8>, NoMemory>
+    ensures { IfOk result (λ text. text.items ≡ line (front.now ++ name.now ++ 32 ∷ [] ++ decimal place)) }
 {
-    b"refused usage\n".to_vec(alloc)
-}
-
-/// The refusal of a mesh file that is too long.
-pub fn long_mesh_refusal(alloc: Global) -> Result<Vec<u8>, NoMemory>
-    ensures { IfOk result (λ text. text.items ≡ long_mesh_line) }
-{
-    b"refused long mesh\n".to_vec(alloc)
-}
-
-/// The refusal of a mesh text by its first fault.
-pub fn mesh_refusal(alloc: Global, kind: MeshKind, place: u64) -> Result<Vec<u8>, NoMemory>
-    ensures { IfOk result (λ text. text.items ≡ mesh_line kind place) }
-{
-    let mut out = b"refused mesh ".to_vec(alloc)?;
-    put_text(alloc, &mut out, kind.name().as_bytes())?;
+    let mut out = front.to_vec(alloc)?;
+    put_text(alloc, &mut out, name.as_bytes())?;
     put_text(alloc, &mut out, b" ")?;
     put_count(alloc, &mut out, place)?;
     put_text(alloc, &mut out, b"\n")?;
     Ok(out)
 }
 
-/// The refusal of a script that is too long.
-pub fn long_script_refusal(alloc: Global) -> Result<Vec<u8>, NoMemory>
-    ensures { IfOk result (λ text. text.items ≡ long_script_line) }
-{
-    b"refused long script\n".to_vec(alloc)
-}
-
-/// The refusal of a script by its first fault.
-pub fn script_refusal(alloc: Global, kind: ScriptKind, line: u32) -> Result<Vec<u8>, NoMemory>
-    ensures { IfOk result (λ text. text.items ≡ script_line kind line) }
-{
-    let mut out = b"refused script ".to_vec(alloc)?;
-    put_text(alloc, &mut out, kind.name().as_bytes())?;
-    put_text(alloc, &mut out, b" ")?;
-    put_count(alloc, &mut out, u64::from(line))?;
-    put_text(alloc, &mut out, b"\n")?;
-    Ok(out)
-}
-
 /// The refusal of a step above the last one.
-pub fn no_step_refusal(alloc: Global, step: u32, last: u32) -> Result<Vec<u8>, NoMemory>
+pub fn missing_step_line(alloc: Global, step: u32, last: u32) -> Result<Vec<u8>, NoMemory>
     ensures { IfOk result (λ text. text.items ≡ no_step_line step last) }
 {
     let mut out = b"refused step ".to_vec(alloc)?;
@@ -105,7 +70,7 @@ pub fn no_step_refusal(alloc: Global, step: u32, last: u32) -> Result<Vec<u8>, N
     Ok(out)
 }
 
-/// How an answer was found, as a word.
+// How an answer was found, as a word.
 fn name_of_route(route: Route) -> &'static str
     ensures { result.now ≡ route_word route }
 {

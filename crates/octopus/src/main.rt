@@ -2,20 +2,15 @@
 #![tactic(auto)]
 
 mod block;
-mod box_answer;
+mod commands;
 mod deliver;
-mod early;
-mod generate;
+mod files;
 mod intake;
 mod lines;
-mod mesh_file;
+mod outcome;
 mod plain;
-mod scan;
-mod script_file;
+mod refusal;
 mod status;
-mod step;
-mod surface;
-mod upgrade;
 mod words;
 
 use crate::plain::plain;
@@ -24,7 +19,7 @@ use oct_edge::{DiskFolder, StdSink};
 use std::process::ExitCode;
 use std::{env, io};
 
-/// The words after the program's name.
+// The words after the program's name.
 fn words_of(rt: &HostRuntime) -> io::Result<Vec<String>> {
     let mut words = Vec::new(rt.alloc());
     for word in env::args(rt)?.skip(1) {
@@ -33,7 +28,7 @@ fn words_of(rt: &HostRuntime) -> io::Result<Vec<String>> {
     Ok(words)
 }
 
-/// The status for words that could not be taken: some aren't text, or there was no memory.
+// The status for words that could not be taken: some aren't text, or there was no memory.
 fn without_words(rt: &HostRuntime, why: io::ErrorKind) -> Status {
     if why == io::ErrorKind::OutOfMemory {
         return Status::Memory;

@@ -1,17 +1,15 @@
 //! The command `box`.
-ghost use Rattle.std.specs.Prelude.{◌≡◌, ◌≤◌, IfOk};
-ghost use Rattle.std.specs.Io.KnownBytes.{IsAtEnd};
-ghost use Rattle.oct_edge.specs.Causes.{Rose};
+ghost use Rattle.std.specs.Prelude.{◌≡◌, IfOk, Some};
 ghost use Rattle.mesh_base.specs.Query.{route, answer};
 ghost use Rattle.run_script.specs.Jobs.{step_at};
+ghost use Rattle.octopus.specs.declared.words.Command.TheVariants.{Box};
 ghost use Rattle.octopus.specs.Lines.{answer_text};
-ghost use Rattle.octopus.specs.Due.{Text, with_mesh};
-ghost use Rattle.octopus.specs.Answers.{AnswersFor, HasAnswer, IsReadFault, IsBadAnswer};
+ghost use Rattle.octopus.specs.Due.{due_of};
+ghost use Rattle.octopus.specs.Outcomes.{Owes};
 
-use crate::early::{Early, Output};
+use crate::files::load_mesh;
 use crate::lines::answer_lines;
-use crate::mesh_file::load_mesh;
-use crate::status::Status;
+use crate::outcome::Early;
 use box_crawl::Marks;
 use box_query::answer_plain;
 use job_steps::first_step;
@@ -22,7 +20,7 @@ use std::alloc::{AllocError, Global};
 use std::sync::Arc;
 use step_view::Step;
 
-/// The job of a mesh that stays as it is.
+// The job of a mesh that stays as it is.
 #[tactic(auto, unfolding(run_script::specs::Jobs::checked, run_script::specs::Jobs::edits_fault, run_script::specs::Jobs::wait_fault, run_script::specs::Jobs::step_at))]
 fn idle_job(alloc: Global, mesh: Mesh) -> Result<Job, NoMemory>
     ensures { IfOk result (λ job. step_at job 0 ≡ mesh) }
@@ -36,7 +34,7 @@ fn idle_job(alloc: Global, mesh: Mesh) -> Result<Job, NoMemory>
     }
 }
 
-/// The mesh as the one step of a job.
+// The mesh as the one step of a job.
 fn only_step(alloc: Global, mesh: Mesh) -> Result<Step, NoMemory>
     ensures { IfOk result (λ step. step.mesh ≡ mesh) }
 {
@@ -45,7 +43,7 @@ fn only_step(alloc: Global, mesh: Mesh) -> Result<Step, NoMemory>
     Ok(step)
 }
 
-/// The text of the answer of a box on a step.
+// The text of the answer of a box on a step.
 fn answered_text(alloc: Global, area: &BoxQ, step: &Step) -> Result<Vec<u8>, NoMemory>
     ensures { IfOk result (λ text. text.items ≡ answer_text (route step.now.mesh area.now) (answer step.now.mesh area.now)) }
 {
@@ -57,20 +55,13 @@ fn answered_text(alloc: Global, area: &BoxQ, step: &Step) -> Result<Vec<u8>, NoM
 /// Reads the mesh and answers the box.
 pub fn run_box<F: Folder>(
     alloc: Global,
+    mesh: &str,
     area: &BoxQ,
-    name: &str,
     folder: &mut F,
-) -> Result<Output, Early>
-    ensures told { AnswersFor (λ files. with_mesh (files name.now) (λ mesh. Text (answer_text (route mesh area.now) (answer mesh area.now)))) (F.files folder.old) result }
-    ensures answer { HasAnswer result }
-    ensures later { F.faults folder.old ≤ F.faults folder.new }
-    ensures cause { IsReadFault result → Rose (F.faults folder.old) (F.faults folder.new) }
-    ensures read_whole { IsBadAnswer result → IsAtEnd (F.rest folder.new) }
+) -> Result<Vec<u8>, Early>
+    ensures { Owes F.files F.rest F.faults folder.old folder.new result (due_of (Some (Box mesh.now area.now))) }
 {
-    let mesh = load_mesh(alloc, name, folder)?;
+    let mesh = load_mesh(alloc, mesh, folder)?;
     let step = only_step(alloc, mesh)?;
-    Ok(Output {
-        status: Status::Done,
-        text: answered_text(alloc, area, &step)?,
-    })
+    Ok(answered_text(alloc, area, &step)?)
 }

@@ -1,0 +1,8 @@
+//! The commands, each in a file of its own.
+
+pub mod box_answer;
+pub mod gen_block;
+pub mod scan;
+pub mod step;
+pub mod surface;
+pub mod upgrade;

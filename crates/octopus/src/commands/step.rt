@@ -1,0 +1,64 @@
+//! The command `step`.
+ghost use Rattle.std.specs.Prelude.{◌≡◌, ◌≤◌, length, IfOk, Some};
+ghost use Rattle.vtk_legacy.specs.Written.{mesh_spelling};
+ghost use Rattle.run_script.specs.Jobs.{step_at};
+ghost use Rattle.octopus.specs.declared.words.Command.TheVariants as commands;
+ghost use Rattle.octopus.specs.Due.{due_of};
+ghost use Rattle.octopus.specs.Outcomes.{Owes};
+
+use crate::files::load_job;
+use crate::outcome::Early;
+use crate::refusal::Refusal;
+use job_steps::{first_step, mesh_of};
+use mesh_base::NoMemory;
+use oct_edge::Folder;
+use run_script::Job;
+use std::alloc::Global;
+use std::sync::Arc;
+use step_view::Step;
+use vtk_legacy::write_mesh;
+
+// Makes the steps of a job up to this one.
+fn make_step(alloc: Global, job: Job, number: u32) -> Result<Step, NoMemory>
+    requires { number ≤ length job.plans }
+    ensures { IfOk result (λ step. step.mesh ≡ step_at job number) }
+{
+    let (first, mut maker) = first_step(alloc, Arc::new(alloc, job)?)?;
+    let mut step = first;
+    for _ in 0..number {
+        step = maker.next_plain(alloc)?;
+    }
+    Ok(step)
+}
+
+// The text of the mesh of a step.
+fn step_text(alloc: Global, job: Job, number: u32) -> Result<Vec<u8>, NoMemory>
+    requires { number ≤ length job.plans }
+    ensures { IfOk result (λ text. text.items ≡ mesh_spelling (step_at job number)) }
+{
+    let step = make_step(alloc, job, number)?;
+    let mesh = mesh_of(alloc, &step)?;
+    let mut text = Vec::new(alloc);
+    write_mesh(alloc, &mesh, &mut text)?;
+    Ok(text)
+}
+
+/// Reads the mesh and then the script, and makes the steps up to this one.
+pub fn run_step<F: Folder>(
+    alloc: Global,
+    mesh: &str,
+    script: &str,
+    step: u32,
+    folder: &mut F,
+) -> Result<Vec<u8>, Early>
+    ensures { Owes F.files F.rest F.faults folder.old folder.new result (due_of (Some (commands.Step mesh.now script.now step))) }
+{
+    let job = load_job(alloc, mesh, script, folder)?;
+    let last = job.steps();
+    if step > last {
+        return Err(Early::Refused {
+            why: Refusal::NoStep { step, last },
+        });
+    }
+    Ok(step_text(alloc, job, step)?)
+}

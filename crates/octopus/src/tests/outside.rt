@@ -1,0 +1,91 @@
+//! Reads and writes that fail, each in turn.
+
+use super::texts::{MOVED_THRICE, ONE, THREE_SHIFTS, THREE_SHIFTS_2};
+use super::{folder, run, sink};
+use crate::status::Status;
+use mesh_base::NoMemory;
+use std::alloc::Global;
+use std::process::Abort;
+use std::test::Fail;
+
+// The words, how many calls on the folder they make until their files are read, and what they write. Of a file of 136
+// bytes there are the selection, 20 reads of at most 7 bytes, and the read at the end; of one of 88 bytes 13 reads.
+const CALLS: [(&str, u64, &str); 5] = [
+    ("scan m.vtk 0 0 0 4 0 0", 22, "count 2\n0 1\n"),
+    ("surface m.vtk", 22, "count 4\n0 1 2 3\n"),
+    ("box m.vtk 0 0 0 4 0 0", 22, "route probe\ncount 2\n0 1\n"),
+    ("step m.vtk s.txt 3", 37, MOVED_THRICE),
+    ("upgrade s.txt", 15, THREE_SHIFTS_2),
+];
+
+// Runs the words where these calls on the folder and on the sink fail.
+fn run_failing(
+    alloc: Global,
+    line: &str,
+    reads: &[u64],
+    writes: &[u64],
+) -> Result<(Status, Vec<u8>), NoMemory> {
+    let from = folder(alloc, ONE.as_bytes(), THREE_SHIFTS.as_bytes(), reads)?;
+    run(alloc, line, from, sink(alloc, writes)?)
+}
+
+// Nothing is written where a read fails.
+fn check_read(rt: &impl Abort, alloc: Global, line: &str, call: u64) -> Result<(), NoMemory> {
+    let (status, written) = run_failing(alloc, line, &[call], &[])?;
+    assert_eq!(rt; status, Status::ReadFault, "call {call} of `{line}`");
+    assert!(rt; written.is_empty(), "call {call} of `{line}`");
+    Ok(())
+}
+
+#[test]
+fn each_read_fails_in_turn(rt: HostRuntime) -> Result<(), Fail> {
+    let alloc = rt.alloc();
+    for (line, calls, text) in CALLS {
+        for call in 0..calls {
+            check_read(&rt, alloc, line, call)?;
+        }
+        let (status, written) = run_failing(alloc, line, &[calls], &[])?;
+        assert_eq!(rt; status, Status::Done, "`{line}`");
+        assert_eq!(rt; written.as_slice(), text.as_bytes(), "`{line}`");
+    }
+    Ok(())
+}
+
+// A text goes out in writes of at most 7 bytes, up to the one that fails.
+fn check_write(
+    rt: &impl Abort,
+    alloc: Global,
+    line: &str,
+    text: &[u8],
+    call: u64,
+) -> Result<(), NoMemory> {
+    let (status, written) = run_failing(alloc, line, &[], &[call])?;
+    let front = text
+        .chunks(7)
+        .take(call as usize)
+        .map(|piece| piece.len())
+        .sum::<usize>();
+    let whole = front == text.len();
+    let due = if whole {
+        Status::Done
+    } else {
+        Status::WriteFault
+    };
+    assert_eq!(rt; status, due, "write {call} of `{line}`");
+    assert!(rt;
+        written.len() == front && text.starts_with(&written),
+        "write {call} of `{line}`"
+    );
+    Ok(())
+}
+
+#[test]
+fn each_write_fails_in_turn(rt: HostRuntime) -> Result<(), Fail> {
+    let alloc = rt.alloc();
+    for (line, _, text) in CALLS {
+        for call in 0..30u64 {
+            check_write(&rt, alloc, line, text.as_bytes(), call)?;
+        }
+    }
+    Ok(())
+}
