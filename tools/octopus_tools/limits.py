@@ -1,0 +1,14 @@
+"""The limits of the program, as its README states them."""
+from __future__ import annotations
+
+MOST_POINTS = 1_000_000
+MOST_CELLS = 4_000_000
+MOST_COORDINATE = 2**30
+MOST_MESH_BYTES = 2**30
+MOST_SCRIPT_BYTES = 2**26
+MOST_STEPS = 10_000
+MOST_EDITS = 1_000_000
+MOST_SESSIONS = 8
+MOST_BOXES = 100_000
+MOST_NUMBER = 2**32 - 1
+MOST_NUMBER_BYTES = 40
