@@ -1,0 +1,10 @@
+pub mod Core
+pub mod CoreLaws
+pub mod Pins
+pub mod Rows
+pub mod Laws
+pub mod SeatLaws
+pub mod Runs
+pub mod Slots
+pub mod Lines
+pub mod Worked
