@@ -1,0 +1,5 @@
+pub mod Report
+pub mod ByAnswers
+pub mod Printed
+pub mod Headline
+pub mod Last
