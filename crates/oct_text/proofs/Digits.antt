@@ -27,3 +27,6 @@ min_after n ds =
       | inl lt ↦ let big : min n 1000 ≡ 1000 = omega arith in rw big (omega (arith, after-ge 1000 ds, after-ge n ds))
       | inr le ↦ let small : min n 1000 ≡ n = omega arith in rw small refl
     ]
+
+pub digit-small : (b : ℕ) → is_digit b ≡ true → b ≤ 57
+digit-small b h = grind (arith, nat_tests)

@@ -9,3 +9,5 @@ pub mod Written
 pub mod ReadAgain
 pub mod AllTokensLemmas
 pub mod PrintingLemmas
+pub mod AheadLemmas
+pub mod RangeLemmas

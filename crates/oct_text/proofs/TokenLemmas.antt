@@ -125,7 +125,7 @@ none_left len r none ended =
 
 -- ---- passing blanks changes nothing
 
-prefix_len-passed : (p : ℕ → Bool) (xs ys : List ℕ) → prefix_len p (xs ++ ys) ≡ prefix_len p xs + prefix_len p (drop (prefix_len p xs) xs ++ ys)
+pub prefix_len-passed : (p : ℕ → Bool) (xs ys : List ℕ) → prefix_len p (xs ++ ys) ≡ prefix_len p xs + prefix_len p (drop (prefix_len p xs) xs ++ ys)
 prefix_len-passed p [] ys = omega arith
 prefix_len-passed p (x ∷ xs) ys = by_first (p x) refl (prefix_len-passed p xs ys)
   where

@@ -1,9 +1,10 @@
-pub mod Rest
-pub mod Kept
+pub mod Ahead
 pub mod AllTokens
-pub mod Taken
-pub mod Numbers
-pub mod Scan
-pub mod Parts
+pub mod Kept
 pub mod Line
+pub mod Numbers
+pub mod Parts
 pub mod Printing
+pub mod Rest
+pub mod Scan
+pub mod Taken

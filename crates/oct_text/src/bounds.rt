@@ -1,9 +1,10 @@
+//! Where blanks, words and lines end.
 ghost use Rattle.std.specs.Prelude.{◌≡◌, ◌≤◌, length};
 ghost use Rattle.std.specs.List.{prefix_len, list_all};
 ghost use Rattle.oct_text.specs.Rest.{is_blank, solid_len, line_len};
 ghost use Rattle.oct_text.specs.Line.{without_cr};
 
-fn is_blank_byte(b: u8) -> bool
+pub fn is_blank_byte(b: u8) -> bool
     ensures { result ≡ is_blank b }
 {
     b == 32 || (b > 8 && b < 14)

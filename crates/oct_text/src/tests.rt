@@ -323,3 +323,112 @@ fn long_and_short_lines(rt: HostRuntime) -> Result<(), Fail> {
     assert_eq!(rt; tokens.line(usize::MAX), LineTaken::More);
     Ok(())
 }
+
+/// Further numbers, each spelled plainly.
+const FURTHER: &[u8] =
+    b"2 3 4 5 6 7 8 9 2 3 4 5 6 7 8 9 2 3 4 5 6 7 8 9 2 3 4 5 6 7 8 9 2 3 4 5 6 7 8 9 ";
+
+/// A spelling, and the count and the coordinate that it is ahead of further numbers, where it is plain.
+const SPELLINGS: [(&[u8], Option<u64>, Option<i32>); 31] = [
+    (b"7 ", Some(7), Some(7)),
+    (b"7\r\n", Some(7), Some(7)),
+    (b"7\t", Some(7), Some(7)),
+    (b"7\x0b", Some(7), Some(7)),
+    (b"7\x0c", Some(7), Some(7)),
+    (b"\r\n\t7 ", Some(7), Some(7)),
+    (b" \x0b\x0c7    ", Some(7), None),
+    (b"    7 ", None, None),
+    (b"007 ", Some(7), Some(7)),
+    (b"123456789 ", Some(123456789), Some(123456789)),
+    (b"000000007 ", Some(7), Some(7)),
+    (b"0000000007 ", None, Some(7)),
+    (b"00000000007 ", None, Some(7)),
+    (b"1073741824 ", None, Some(1073741824)),
+    (b"1073741825 ", None, None),
+    (b"+4 ", None, Some(4)),
+    (b"-4 ", None, Some(-4)),
+    (b"-0 ", None, Some(0)),
+    (b"4. ", None, Some(4)),
+    (b".0 ", None, Some(0)),
+    (b".5 ", None, None),
+    (b".5e1 ", None, Some(5)),
+    (b"1e+06 ", None, Some(1000000)),
+    (b"1e ", None, None),
+    (b"7x ", None, None),
+    (b"7,", None, None),
+    (b"7\x00 ", None, None),
+    (b"x7 ", None, None),
+    (b"1.2.3 ", None, None),
+    (b"0000000000000000000000000000000000000007 ", None, Some(7)),
+    (b"00000000000000000000000000000000000000007 ", None, None),
+];
+
+/// The tokens of these bytes, where more may come.
+fn begun(rt: &impl Abort, alloc: Global, bytes: &[u8]) -> Result<Tokens, NoMemory> {
+    let mut tokens = Tokens::new(alloc);
+    feed(rt, alloc, &mut tokens, bytes)?;
+    Ok(tokens)
+}
+
+/// The count that the next token spells.
+fn next_count(tokens: &mut Tokens) -> Option<u64> {
+    match tokens.next() {
+        Taken::Token { place: _, text } => count(text, u64::MAX).ok(),
+        _ => None,
+    }
+}
+
+/// The coordinate that the next token spells.
+fn next_coordinate(tokens: &mut Tokens) -> Option<i32> {
+    match tokens.next() {
+        Taken::Token { place: _, text } => whole(text).ok(),
+        _ => None,
+    }
+}
+
+/// Whether the count ahead is this one, or none is seen where one may be missing, and taking the token gives the same.
+fn has_count(mut tokens: Tokens, want: Option<u64>, may_miss: bool) -> bool {
+    match tokens.count_ahead() {
+        Some(front) => {
+            let behind = tokens.place().saturating_add(front.len as u64);
+            Some(front.value) == want && next_count(&mut tokens) == want && tokens.place() == behind
+        }
+        None => may_miss || want.is_none(),
+    }
+}
+
+/// Whether the point ahead has this x, y 2 and z 3, or none is seen where one may be missing, and taking the tokens gives the same.
+fn has_point(mut tokens: Tokens, x: Option<i32>, may_miss: bool) -> bool {
+    match tokens.point_ahead() {
+        Some(point) => {
+            let behind = tokens.place().saturating_add(point.len as u64);
+            Some(point.x) == x
+                && (point.y, point.z) == (2, 3)
+                && next_coordinate(&mut tokens) == x
+                && next_coordinate(&mut tokens) == Some(2)
+                && next_coordinate(&mut tokens) == Some(3)
+                && tokens.place() == behind
+        }
+        None => may_miss || x.is_none(),
+    }
+}
+
+#[test]
+fn numbers_ahead_at_each_cut(rt: HostRuntime) -> Result<(), Fail> {
+    let alloc = rt.alloc();
+    for (spelling, value, x) in SPELLINGS {
+        let mut text = spelling.to_vec(alloc)?;
+        text.extend_from_slice(FURTHER)?;
+        for cut in 0..text.len() + 1 {
+            let cut_off = cut < text.len();
+            let counted = has_count(begun(&rt, alloc, &text[..cut])?, value, cut_off);
+            let placed = has_point(begun(&rt, alloc, &text[..cut])?, x, cut_off);
+            assert!(rt; counted && placed, "{text:?} cut at {cut}");
+        }
+    }
+    let four = begun(&rt, alloc, b" 4 10\t11\r\n12 13 14 15 16 17 18")?;
+    let row = four.row_ahead(4);
+    assert!(rt; matches!(&row, Some(row) if row.values == [10, 11, 12, 13] && row.len == 15));
+    assert!(rt; four.row_ahead(3).is_none());
+    Ok(())
+}

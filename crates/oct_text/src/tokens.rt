@@ -1,12 +1,15 @@
-ghost use Rattle.std.specs.Prelude.{◌≡◌, ◌+◌, ◌-◌, ◌^◌, ◌<◌, ◌≤◌, ◌++◌, [], length, take, drop, true, false, OnOk, OnErr, vec_len, nat_lt, ◌&&◌, ◌||◌, if◌then◌else◌, min};
+//! The buffer over the pieces of a text.
+ghost use Rattle.std.specs.Prelude.{◌≡◌, ◌+◌, ◌-◌, ◌^◌, ◌<◌, ◌≤◌, ◌++◌, [], length, take, drop, true, false, ◌∷◌, IfSome, OnOk, OnErr, vec_len, nat_lt, ◌&&◌, ◌||◌, if◌then◌else◌, min};
 ghost use Rattle.std.specs.Borrow.{sem};
 ghost use Rattle.oct_text.specs.Rest.{Rest, past_blanks, behind, front_of};
+ghost use Rattle.oct_text.specs.Ahead.{TakesCount, TakesCounts, TakesWholes};
 ghost use Rattle.oct_text.specs.Line.{LineBy};
 ghost use Rattle.oct_text.specs.Taken.{front_taken, LeftBy, SkippedBy};
 ghost use Rattle.oct_text.specs.contracts.tokens.Tokens.{the_row};
 ghost use Rattle.std.specs.Io.BufRead.{Rests};
 
 use crate::NoMemory;
+use crate::ahead::{CountFront, behind as from_place, count_front, whole_front};
 use crate::bounds::{all_blank, blanks, chomped, line_end, word_end};
 use std::alloc::Global;
 use std::marker::Model;
@@ -48,6 +51,25 @@ pub enum Taken<'a> {
     More,
     /// The text has ended; its length.
     End { place: u64 },
+}
+
+/// What `row_ahead` saw.
+#[derive(Clone, Copy)]
+pub struct RowAhead {
+    /// The four counts behind the size.
+    pub values: [u64; 4],
+    /// How many bytes the size and the counts take, with the blanks before them.
+    pub len: usize,
+}
+
+/// What `point_ahead` saw.
+#[derive(Clone, Copy)]
+pub struct PointAhead {
+    pub x: i32,
+    pub y: i32,
+    pub z: i32,
+    /// How many bytes the three take, with the blanks before them.
+    pub len: usize,
 }
 
 /// What `line` found.
@@ -171,8 +193,63 @@ impl Tokens {
         self.place + (self.kept.len() - self.at) as u64
     }
 
-    /// Passes so many bytes.
-    fn pass(&mut self, count: usize)
+    /// The count that the next token spells, where that is plain: at most nine digits, with at most three blanks before them
+    /// and a blank behind them, and at least 16 bytes came. `None` tells nothing: read the token by `next`.
+    ///
+    /// Nothing is taken: `pass` does that. It looks at 14 bytes at most and takes no memory.
+    pub fn count_ahead(&self) -> Option<CountFront>
+        ensures within { IfSome result (λ ahead. ahead.len ≤ length self.now.bytes) }
+        ensures exact { IfSome result (λ ahead. TakesCount self.now ahead.value (behind ahead.len self.now)) }
+    {
+        count_front(self.rest())
+    }
+
+    /// The next five counts, where the first is `size` and each is plain, as for `count_ahead`. `None` tells nothing.
+    ///
+    /// Nothing is taken. It looks at 70 bytes at most, and at 14 where the first count is another; it takes no memory.
+    pub fn row_ahead(&self, size: u64) -> Option<RowAhead>
+        ensures within { IfSome result (λ ahead. ahead.len ≤ length self.now.bytes) }
+        ensures exact { IfSome result (λ ahead. TakesCounts self.now (size ∷ ahead.values) (behind ahead.len self.now)) }
+    {
+        let rest = self.rest();
+        let head = count_front(rest)?;
+        if head.value != size {
+            return None;
+        }
+        let mut len = head.len;
+        let mut values = [0; 4];
+        for i in 0..4usize {
+            let next = count_front(from_place(rest, len))?;
+            values[i] = next.value;
+            len += next.len;
+        }
+        Some(RowAhead { values, len })
+    }
+
+    /// The next three coordinates, where each has at most 40 bytes, at most three blanks before it and a blank behind it, and
+    /// at least 64 bytes came from its blanks on. `None` tells nothing.
+    ///
+    /// Nothing is taken. It looks at 132 bytes at most, each at most three times, and takes no memory.
+    pub fn point_ahead(&self) -> Option<PointAhead>
+        ensures within { IfSome result (λ ahead. ahead.len ≤ length self.now.bytes) }
+        ensures exact { IfSome result (λ ahead. TakesWholes self.now (ahead.x ∷ ahead.y ∷ ahead.z ∷ []) (behind ahead.len self.now)) }
+    {
+        let rest = self.rest();
+        let x = whole_front(rest)?;
+        let behind_x = from_place(rest, x.len);
+        let y = whole_front(behind_x)?;
+        let behind_y = from_place(behind_x, y.len);
+        let z = whole_front(behind_y)?;
+        Some(PointAhead {
+            x: x.value,
+            y: y.value,
+            z: z.value,
+            len: x.len + y.len + z.len,
+        })
+    }
+
+    /// Passes so many bytes, of those that came. It looks at none of them.
+    pub fn pass(&mut self, count: usize)
         requires { count ≤ length self.old.bytes }
         ensures { self.new ≡ behind count self.old }
     {

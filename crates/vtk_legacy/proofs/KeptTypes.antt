@@ -14,7 +14,7 @@ use Rattle.vtk_legacy.specs.Kept.{types_left, typed_kept, kept, empty_row, fille
 use Rattle.vtk_legacy.proofs.StepLemmas.{bind_assoc, bind_same, bind_ok_same}
 
 -- four points are kept whole
-corners-four : (row : List ℕ) → length row ≡ 4 → filled 0 row no_corners ≡ row
+pub corners-four : (row : List ℕ) → length row ≡ 4 → filled 0 row no_corners ≡ row
 corners-four (a ∷ b ∷ c ∷ d ∷ []) h = refl
 corners-four [] h = absurd (omega arith)
 corners-four (a ∷ []) h = absurd (omega arith)

@@ -3,7 +3,6 @@ pub mod Examples
 pub mod WordLemmas
 pub mod VersionLemmas
 pub mod StepLemmas
-pub mod CoordinateLemmas
 pub mod TypeLemmas
 pub mod CellLemmas
 pub mod Shrinks
@@ -19,3 +18,4 @@ pub mod WrittenLists
 pub mod WrittenWords
 pub mod WrittenRules
 pub mod WrittenAgain
+pub mod AheadLemmas

@@ -1,5 +1,5 @@
 -- What a reader keeps of the parts that it has read.
-use Rattle.std.specs.Prelude.{ℕ, zero, suc, ◌+◌, ◌-◌, Bool, true, false, ◌==◌, nat_lt, if◌then◌else◌, List, [], ◌∷◌, ◌++◌, length, drop, Option, Ok, slice_set, slice_index_or}
+use Rattle.std.specs.Prelude.{ℕ, zero, suc, ◌+◌, ◌-◌, ◌<◌, Bool, true, false, ◌==◌, nat_lt, if◌then◌else◌, List, [], ◌∷◌, ◌++◌, length, drop, Option, Ok, slice_set, slice_index_or}
 use Rattle.std.specs.List.{prefix_len}
 use Rattle.mesh_base.specs.Mesh.{Corners, corners_of}
 use Rattle.mesh_base.specs.Place.{Place}
@@ -124,3 +124,8 @@ types_left (suc k) rows l = do
   type ← token l >>= typed_kept (row_at rows (length rows - k - 1))
   rest ← types_left k rows type.1
   with_cell type.0 (corners_of (row_at rows (length rows - k - 1)).corners) rest
+
+-- each number is below n, the number of points
+abbrev pub AreBelow : ℕ → List ℕ → Type 0
+AreBelow n [] = Unit {0}
+AreBelow n (p ∷ ps) = (p < n) × AreBelow n ps

@@ -1,5 +1,5 @@
 -- How a reader works: what comes of the rest of a text, from each of its stages. A text's meaning is defined without it, in MeshText.
-use Rattle.std.specs.Prelude.{◌≡◌, ℕ, suc, ◌+◌, ◌-◌, ◌*◌, ◌<◌, ◌==◌, Bool, true, false, if◌then◌else◌, List, [], ◌∷◌, length, map, Option, Some, None, Result, Ok, Err, ℤ, codes}
+use Rattle.std.specs.Prelude.{◌≡◌, ℕ, suc, ◌+◌, ◌-◌, ◌*◌, ◌<◌, ◌≤◌, ◌==◌, Bool, true, false, if◌then◌else◌, List, [], ◌∷◌, length, map, Option, Some, None, Result, Ok, Err, ℤ, codes}
 use Rattle.mesh_base.specs.Mesh.{MeshView, corners_of}
 use Rattle.oct_text.specs.Rest.{Left, Token, next_token, Rest, continued, MayCome}
 use Rattle.vtk_legacy.specs.declared.fault.MeshKind.TheVariants as kinds
@@ -375,3 +375,31 @@ Advances old got r (Err e) new got' r' = FaultsWith old got r e × SameText r r'
 abbrev pub Runs : Stage → Parts → Rest → Result (Unit {0}) MeshFault → Stage → Parts → Rest → Type 0
 Runs old got r (Ok done) new got' r' = Keeps old got r new got' r' × IsSpent new got' r' × SameText r r'
 Runs old got r (Err e) new got' r' = FaultsWith old got r e × SameText r r'
+
+-- ---- reading on where parts are spelled plainly
+
+-- What comes of the text stays the same, and no more bytes are left than before.
+abbrev pub Passes : Stage → Parts → Rest → Stage → Parts → Rest → Type 0
+Passes old got r new got' r' = Keeps old got r new got' r' × (length r'.bytes ≤ length r.bytes) × SameText r r'
+
+-- One part was read, or none and nothing has changed, or there is a fault.
+abbrev pub Steps : Stage → Parts → Rest → Result Bool MeshFault → Stage → Parts → Rest → Type 0
+Steps old got r (Ok true) new got' r' = Passes old got r new got' r'
+Steps old got r (Ok false) new got' r' = (got' ≡ got) × (r' ≡ r)
+Steps old got r (Err e) new got' r' = FaultsWith old got r e × SameText r r'
+
+-- One part was read, on whose value the new stage depends, or none and nothing has changed, or there is a fault.
+abbrev pub StepsTo : {X : Type 0} → Stage → Parts → Rest → (X → Stage) → Result (Option X) MeshFault → Parts → Rest → Type 0
+StepsTo old got r new (Ok (Some x)) got' r' = Passes old got r (new x) got' r'
+StepsTo old got r new (Ok None) got' r' = (got' ≡ got) × (r' ≡ r)
+StepsTo old got r new (Err e) got' r' = FaultsWith old got r e × SameText r r'
+
+-- Parts were read up to a stage, or there is a fault.
+abbrev pub PassesTo : Stage → Parts → Rest → Result Stage MeshFault → Parts → Rest → Type 0
+PassesTo old got r (Ok new) got' r' = Passes old got r new got' r'
+PassesTo old got r (Err e) got' r' = FaultsWith old got r e × SameText r r'
+
+-- Parts were read, or none, or there is a fault.
+abbrev pub ReadsOn : Stage → Parts → Rest → Result (Unit {0}) MeshFault → Stage → Parts → Rest → Type 0
+ReadsOn old got r (Ok done) new got' r' = Passes old got r new got' r'
+ReadsOn old got r (Err e) new got' r' = FaultsWith old got r e × SameText r r'

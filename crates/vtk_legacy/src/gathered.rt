@@ -149,6 +149,15 @@ impl Gathered {
         Ok(())
     }
 
+    /// Adds a row of these four points.
+    pub fn push_four(&mut self, corners: [u32; 4]) -> Result<(), MeshFault>
+        ensures ok { OnOk result (self.new ≡ with_rows (record { count = 4; corners = corners } ∷ []) self.old) }
+        ensures err { IfErr result (λ e. e ≡ NoMemory) }
+    {
+        self.rows.push(CellRow { count: 4, corners })?;
+        Ok(())
+    }
+
     pub fn push_cell(&mut self, cell: Cell) -> Result<(), MeshFault>
         ensures ok { OnOk result (self.new ≡ with_cells (Some cell ∷ []) self.old) }
         ensures err { IfErr result (λ e. e ≡ NoMemory) }

@@ -9,6 +9,7 @@ mod gathered;
 mod laws;
 mod lines;
 mod offsets;
+mod plain;
 mod points;
 mod reader;
 mod stage;

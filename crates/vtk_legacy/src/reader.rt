@@ -3,12 +3,13 @@ ghost use Rattle.std.specs.Prelude.{◌≡◌, [], false};
 ghost use Rattle.oct_text.specs.Rest.{continued};
 ghost use Rattle.vtk_legacy.specs.MeshText.{mesh_text, mesh_of};
 ghost use Rattle.vtk_legacy.specs.Kept.{Parts};
-ghost use Rattle.vtk_legacy.specs.Machine.{Runs, Advances, WantsToken, at_end, goes_on};
+ghost use Rattle.vtk_legacy.specs.Machine.{Runs, Advances, ReadsOn, WantsToken, at_end, goes_on};
 ghost use Rattle.vtk_legacy.specs.Outcome.{Agrees};
 
 use crate::fault::{MeshFault, MeshKind};
 use crate::gathered::Gathered;
 use crate::lines::{skip_one, skip_rest, take_title, take_version};
+use crate::plain::{take_numbers, take_offsets, take_points, take_rows, take_types};
 use crate::stage::{Section, Stage};
 use crate::steps::step;
 use crate::values::fault;
@@ -31,8 +32,46 @@ fn take_token(tokens: &mut Tokens, stage: &mut Stage, got: &mut Gathered) -> Res
     }
 }
 
+// Reads on where parts are spelled plainly: a short cut, without which the next step does the same.
+fn read_on(tokens: &mut Tokens, stage: &mut Stage, got: &mut Gathered) -> Result<(), MeshFault>
+    ensures { ReadsOn stage.old got.old tokens.old result stage.new got.new tokens.new }
+{
+    match *stage {
+        Stage::PointX { more } => {
+            *stage = take_points(tokens, got, more)?;
+            Ok(())
+        }
+        Stage::CellHead { more, room, place } => {
+            *stage = take_rows(tokens, got, more, room, place)?;
+            Ok(())
+        }
+        Stage::CellType { more } => {
+            *stage = take_types(tokens, got, more)?;
+            Ok(())
+        }
+        Stage::Offset {
+            more,
+            first: false,
+            before,
+            numbers,
+        } => {
+            *stage = take_offsets(tokens, got, more, before, numbers)?;
+            Ok(())
+        }
+        Stage::Number { more, spot } => {
+            *stage = take_numbers(tokens, got, more, spot);
+            Ok(())
+        }
+        _ => Ok(()),
+    }
+}
+
 /// Takes the next token or line, and says whether there was a whole one.
-fn advance(tokens: &mut Tokens, stage: &mut Stage, got: &mut Gathered) -> Result<bool, MeshFault>
+fn advance_one(
+    tokens: &mut Tokens,
+    stage: &mut Stage,
+    got: &mut Gathered,
+) -> Result<bool, MeshFault>
     ensures { Advances stage.old got.old tokens.old result stage.new got.new tokens.new }
 {
     match *stage {
@@ -43,6 +82,14 @@ fn advance(tokens: &mut Tokens, stage: &mut Stage, got: &mut Gathered) -> Result
         Stage::MetadataLines { section } => Ok(skip_one(tokens, section, stage)),
         _ => take_token(tokens, stage, got),
     }
+}
+
+// Reads on where parts are spelled plainly, then takes the next token or line, and says whether there was a whole one.
+fn advance(tokens: &mut Tokens, stage: &mut Stage, got: &mut Gathered) -> Result<bool, MeshFault>
+    ensures { Advances stage.old got.old tokens.old result stage.new got.new tokens.new }
+{
+    read_on(tokens, stage, got)?;
+    advance_one(tokens, stage, got)
 }
 
 /// Reads on as far as the bytes that came allow.

@@ -1,6 +1,7 @@
 use super::*;
 use crate::texts::{
-    REALISTIC, agree, changed, consists_of, has_fault, has_mesh, same_for_cuts, with_cells,
+    FAULTS_AHEAD, REALISTIC, SAME_MESHES, agree, changed, consists_of, faulty_token, has_fault,
+    has_mesh, joined, same_for_cuts, with_cells,
 };
 use std::test::*;
 
@@ -324,6 +325,31 @@ fn offsets(rt: HostRuntime) -> Result<(), Fail> {
     for (version, cells, count) in meshes {
         let text = with_cells(alloc, version, cells)?;
         assert!(rt; has_mesh(alloc, &text, 4, count), "with {count} cells");
+    }
+    Ok(())
+}
+
+#[test]
+fn plain_and_other_spellings_at_each_cut(rt: HostRuntime) -> Result<(), Fail> {
+    let alloc = rt.alloc();
+    let points = [
+        (0, 0, 0),
+        (4, 0, 0),
+        (0, 4, 0),
+        (0, 0, 4),
+        (4, 4, 4),
+        (1000000, -7, 1073741824),
+    ];
+    let cells = [[0, 1, 2, 3], [1, 2, 3, 4], [5, 0, 2, 1], [3, 4, 5, 0]];
+    for parts in SAME_MESHES {
+        let text = joined(alloc, parts, b"")?;
+        let mesh = read_mesh(alloc, &text);
+        assert!(rt; consists_of(&mesh, &points, &cells), "{text:?}");
+        assert!(rt; same_for_cuts(alloc, &text), "{text:?}");
+    }
+    for (parts, token, kind) in FAULTS_AHEAD {
+        let faulty = faulty_token(alloc, parts, token, kind)?;
+        assert!(rt; faulty, "{parts:?} {token:?}");
     }
     Ok(())
 }

@@ -1,5 +1,5 @@
-use Rattle.vtk_legacy.proofs.Advance.{passed_all}
+use Rattle.vtk_legacy.proofs.AheadLemmas.{advances_on}
 use Rattle.vtk_legacy.proofs.reader.advance.Goals as goal
 
-pub returns-in-Passed : goal.returns-in-Passed
-returns-in-Passed c = rw c.in-Passed.is (passed_all c.args.got.now c.args.tokens.now)
+pub returns : goal.returns
+returns c = advances_on _ _ _ _ _ _ _ _ _ _ c.in_ok-read_on.ensures c.advance_one.ensures

@@ -1,6 +1,6 @@
 use Rattle.std.proofs.Common.{sym, arith}
 use Rattle.std.proofs.lemmas.Int.{ints}
-use Rattle.vtk_legacy.proofs.CoordinateLemmas.{coordinate-within}
+use Rattle.oct_text.proofs.RangeLemmas.{coordinate-within}
 use Rattle.vtk_legacy.proofs.values.coordinate_at.Goals as goal
 
 pub new-requires : goal.new-requires

@@ -1,14 +1,13 @@
--- A coordinate lies in its range.
-use Rattle.std.proofs.Common.{◌≡◌, ℕ, ◌+◌, ◌≤◌, ◌^◌, Bool, true, false, cond, List, length, Result, Ok, Err, refl, subst, arith}
-use Rattle.std.specs.Prelude.{ℤ, nat_le, ◌%◌, ◌/◌, ◌==◌, ◌&&◌, ◌*◌, ◌++◌, if◌then◌else◌}
+-- A coordinate lies from -2^30 to 2^30, so it fits 32 bits.
+use Rattle.std.proofs.Common.{◌≡◌, ℕ, ◌+◌, ◌≤◌, ◌^◌, Bool, true, false, cond, List, length, Result, Ok, Err, refl, subst, arith, SFits, w32}
+use Rattle.std.specs.Prelude.{ℤ, pos, negsuc, neg_ℤ, ◌≤ℤ◌, nat_le, ◌%◌, ◌/◌, ◌==◌, ◌&&◌, ◌*◌, ◌++◌, if◌then◌else◌}
 use Rattle.std.proofs.lemmas.Bool.{leb-true}
-use Rattle.mesh_base.specs.Place.{IsCoordinate}
+use Rattle.std.proofs.lemmas.Int.{ints}
 use Rattle.oct_text.specs.declared.numbers.NumFault.{NumFault}
 use Rattle.oct_text.specs.declared.numbers.NumFault.TheVariants as faults
 use Rattle.oct_text.specs.Numbers.{whole_quotient, size_spelled, coordinate_of, with_sign, signed_size, is_negative, without_sign, scaled, mantissa_fits, exponent_fits, is_e, is_point}
 use Rattle.std.specs.Str.Parse.{digits_value}
 use Rattle.std.specs.List.{before_first, after_first, list_any}
-use Rattle.std.proofs.lemmas.Int.{ints}
 
 abbrev IsSmall : Result ℕ NumFault → Type 0
 IsSmall (Ok n) = n ≤ 2 ^ 30
@@ -36,18 +35,29 @@ size-small text =
     small_where (mantissa_fits (before_first is_e text) && (if list_any is_e text then exponent_fits (after_first is_e text) else true)) (scaled (before_first is_e text) (after_first is_e text)) faults.Bad
     (λ good. scaled-small (before_first is_e text) (after_first is_e text))
 
-signed-within : (negative : Bool) (n : ℕ) → n ≤ 2 ^ 30 → IsCoordinate (signed_size negative n)
+-- from -2^30 to 2^30
+abbrev IsWithin : ℤ → Type 0
+IsWithin z = (neg_ℤ (pos (2 ^ 30)) ≤ℤ z) × (z ≤ℤ pos (2 ^ 30))
+
+signed-within : (negative : Bool) (n : ℕ) → n ≤ 2 ^ 30 → IsWithin (signed_size negative n)
 signed-within true n le = (omega (arith, ints), omega (arith, ints))
 signed-within false n le = (omega (arith, ints), omega (arith, ints))
 
-signed-small : (negative : Bool) (r : Result ℕ NumFault) (z : ℤ) → IsSmall r → with_sign negative r ≡ Ok z → IsCoordinate z
-signed-small negative (Ok n) z small e = let is : signed_size negative n ≡ z = cc in subst IsCoordinate is (signed-within negative n small)
+signed-small : (negative : Bool) (r : Result ℕ NumFault) (z : ℤ) → IsSmall r → with_sign negative r ≡ Ok z → IsWithin z
+signed-small negative (Ok n) z small e = let is : signed_size negative n ≡ z = cc in subst IsWithin is (signed-within negative n small)
 signed-small negative (Err f) z small e = absurd cc
 
-where_short : (c negative : Bool) (r : Result ℕ NumFault) (z : ℤ) → IsSmall r → cond c (with_sign negative r) (Err faults.Bad) ≡ Ok z → IsCoordinate z
+where_short : (c negative : Bool) (r : Result ℕ NumFault) (z : ℤ) → IsSmall r → cond c (with_sign negative r) (Err faults.Bad) ≡ Ok z → IsWithin z
 where_short true negative r z small e = signed-small negative r z small e
 where_short false negative r z small e = absurd cc
 
-pub coordinate-within : (text : List ℕ) (z : ℤ) → coordinate_of text ≡ Ok z → IsCoordinate z
+pub coordinate-within : (text : List ℕ) (z : ℤ) → coordinate_of text ≡ Ok z → IsWithin z
 unfolding coordinate_of
 coordinate-within text z e = where_short (nat_le (length text) 40) (is_negative text) (size_spelled (without_sign text)) z (size-small (without_sign text)) e
+
+small-fits : (z : ℤ) → IsWithin z → SFits w32 z
+small-fits (pos n) h = record { sfits = omega (arith, ints, h.1) }
+small-fits (negsuc n) h = record { sfits = omega (arith, ints, h.0) }
+
+pub whole_fits : (text : List ℕ) (z : ℤ) → coordinate_of text ≡ Ok z → SFits w32 z
+whole_fits text z e = small-fits z (coordinate-within text z e)

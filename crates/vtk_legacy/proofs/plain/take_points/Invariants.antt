@@ -1,0 +1,9 @@
+use Rattle.vtk_legacy.specs.declared.stage.Stage.TheVariants as stage
+use Rattle.vtk_legacy.specs.Machine.{Passes}
+use Rattle.vtk_legacy.proofs.plain.take_points.Given as goal
+
+abbrev pub invariant-loop-left : goal.invariant-loop-left
+invariant-loop-left l = Passes (stage.PointX l.fn.more) l.fn.got l.fn.tokens (stage.PointX l.left) l.got l.tokens
+
+abbrev pub decreases-loop-left : goal.decreases-loop-left
+decreases-loop-left l = l.left
