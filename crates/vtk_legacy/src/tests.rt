@@ -1,7 +1,7 @@
 use super::*;
 use crate::texts::{
     FAULTS_AHEAD, REALISTIC, SAME_MESHES, agree, changed, consists_of, faulty_token, has_fault,
-    has_mesh, joined, same_for_cuts, with_cells,
+    has_mesh, same_for_cuts, spelled, with_cells,
 };
 use std::test::*;
 
@@ -341,14 +341,14 @@ fn plain_and_other_spellings_at_each_cut(rt: HostRuntime) -> Result<(), Fail> {
         (1000000, -7, 1073741824),
     ];
     let cells = [[0, 1, 2, 3], [1, 2, 3, 4], [5, 0, 2, 1], [3, 4, 5, 0]];
-    for parts in SAME_MESHES {
-        let text = joined(alloc, parts, b"")?;
+    for (version, parts) in SAME_MESHES.iter() {
+        let text = spelled(alloc, version, *parts, b"")?;
         let mesh = read_mesh(alloc, &text);
         assert!(rt; consists_of(&mesh, &points, &cells), "{text:?}");
         assert!(rt; same_for_cuts(alloc, &text), "{text:?}");
     }
-    for (parts, token, kind) in FAULTS_AHEAD {
-        let faulty = faulty_token(alloc, parts, token, kind)?;
+    for (version, parts, token, kind) in FAULTS_AHEAD.iter() {
+        let faulty = faulty_token(alloc, version, *parts, token, *kind)?;
         assert!(rt; faulty, "{parts:?} {token:?}");
     }
     Ok(())

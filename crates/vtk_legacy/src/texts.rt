@@ -152,22 +152,6 @@ pub const REALISTIC: [&[u8]; 23] = [
     b"0.5 0.5 0.5 0.5 0.5",
 ];
 
-/// The text of these parts and this token, and what may stand behind.
-pub fn joined(alloc: Global, parts: [&[u8]; 4], token: &[u8]) -> Result<Vec<u8>, AllocError> {
-    let mut all = Vec::new(alloc);
-    for part in parts {
-        all.extend_from_slice(part)?;
-    }
-    all.extend_from_slice(token)?;
-    all.extend_from_slice(BEHIND)?;
-    Ok(all)
-}
-
-/// The first lines in version 3.0 and in version 5.1.
-const V3: &[u8] = b"# vtk DataFile Version 3.0\nfour\nASCII\nDATASET UNSTRUCTURED_GRID\n";
-
-const V5: &[u8] = b"# vtk DataFile Version 5.1\nfour\nASCII\nDATASET UNSTRUCTURED_GRID\n";
-
 /// Six points, and four tetrahedra over them, in plain spelling.
 const POINTS: &[u8] = b"POINTS 6 int\n0 0 0\n4 0 0\n0 4 0\n0 0 4\n4 4 4\n1000000 -7 1073741824\n";
 
@@ -175,142 +159,148 @@ const CELLS: &[u8] = b"CELLS 4 20\n4 0 1 2 3\n4 1 2 3 4\n4 5 0 2 1\n4 3 4 5 0\n"
 
 const TYPES: &[u8] = b"CELL_TYPES 4\n10\n10\n10\n10\n";
 
-/// The same tetrahedra amid five cells of other types.
-const MIXED_TYPES: &[u8] = b"CELL_TYPES 9\n5\n10\n9\n010\n7\n4\n10\t0000000010\x0b3\r\n";
+/// The types of the same tetrahedra amid five cells of other types.
+const MIXED: &[u8] = b"CELL_TYPES 9\n5\n10\n9\n010\n7\n4\n10\t0000000010\x0b3\r\n";
 
-/// What may stand behind the types.
+/// What stands behind the types.
 const BEHIND: &[u8] =
     b"\nCELL_DATA 4\nSCALARS weight int\nLOOKUP_TABLE default\n1 2 3 4\nPOINT_DATA 6\n";
 
-/// Texts of these points and tetrahedra: the first lines, the points, the cells and the types.
-pub const SAME_MESHES: [[&[u8]; 4]; 9] = [
-    [V3, POINTS, CELLS, TYPES],
-    [
-        V3,
-        b"POINTS 6 float\r\n+0\t-0 0.\r\n4.\t0e5 .0\r\n0 .4e1 +0\r\n00 -0. 4e0\r\n4 40e-1 04\r\n1e+06 -7. 1073741824\r\n",
-        CELLS,
-        TYPES,
-    ],
-    [
-        V3,
-        b"POINTS 6 int\x0b0\x0c0\x0b0    4    0   0   0\n\n\n\n4 0 0 0 4 4 4 4 1000000 -000000000000000000000000000000000000007\t1.073741824e9 ",
-        CELLS,
-        TYPES,
-    ],
-    [
-        V3,
-        POINTS,
-        b"CELLS 4 20\n04 00 01 02 03\n000000004 1 2 3 4\n0000000004 5 0 2 1\n00000000004 3 4 5 0\n",
-        TYPES,
-    ],
-    [
-        V3,
-        POINTS,
-        b"CELLS 4 20\r\n4\t0\t0000000001 2 3\r\n4\x0b1\x0c00000000002\x0b3\x0c4\r\n4  5   0    2     1\r\n\r\n4 3 4 5 0",
-        b"\r\nCELL_TYPES 4\r\n10\r\n0000000010\r\n00000000010\t010\r\n",
-    ],
-    [
-        V3,
-        POINTS,
-        b"CELLS 9 39\n3 0 1 2\n4 0 1 2 3\n4 1 1 2 2\n4 1 2 3 4\n0\n5 0 1 2 3 4\n4 5 0 2 1\n4 3 4 5 0\n2 0 5\n",
-        MIXED_TYPES,
-    ],
-    [
-        V5,
-        POINTS,
-        b"CELLS 5 16\nOFFSETS vtktypeint64\n0 4 8 12 16\nCONNECTIVITY vtktypeint64\n0 1 2 3\n1 2 3 4\n5 0 2 1\n3 4 5 0\n",
-        TYPES,
-    ],
-    [
-        V5,
-        POINTS,
-        b"CELLS 5 16\r\nOFFSETS int\r\n0\t04 0000000008 00000000012\x0b16\r\nCONNECTIVITY int\r\n0\t1\x0b2\x0c3 000000001 0000000002 00000000003 4    5 0 2 1 3 4 5 0\r\n",
-        TYPES,
-    ],
-    [
-        V5,
-        POINTS,
-        b"CELLS 10 30\nOFFSETS int\n0 3 7 11 15 15 20 24 28 30\nCONNECTIVITY int\n0 1 2 0 1 2 3 1 1 2 2 1 2 3 4 0 1 2 3 4 5 0 2 1 3 4 5 0 0 5\n",
-        MIXED_TYPES,
-    ],
+/// Other spellings of these points and tetrahedra: the version, the points, the cells and the types, each plain where it is empty.
+pub const SAME_MESHES: [(&[u8], [&[u8]; 3]); 9] = [
+    (b"3.0", [b"", b"", b""]),
+    (
+        b"3.0",
+        [
+            b"POINTS 6 float\r\n+0\t-0 0.\r\n4.\t0e5 .0\r\n0 .4e1 +0\r\n00 -0. 4e0\r\n4 40e-1 04\r\n1e+06 -7. 1073741824\r\n",
+            b"",
+            b"",
+        ],
+    ),
+    (
+        b"3.0",
+        [
+            b"POINTS 6 int\x0b0\x0c0\x0b0    4    0   0   0\n\n\n\n4 0 0 0 4 4 4 4 1000000 -000000000000000000000000000000000000007\t1.073741824e9 ",
+            b"",
+            b"",
+        ],
+    ),
+    (
+        b"3.0",
+        [
+            b"",
+            b"CELLS 4 20\n04 00 01 02 03\n000000004 1 2 3 4\n0000000004 5 0 2 1\n00000000004 3 4 5 0\n",
+            b"",
+        ],
+    ),
+    (
+        b"3.0",
+        [
+            b"",
+            b"CELLS 4 20\r\n4\t0\t0000000001 2 3\r\n4\x0b1\x0c00000000002\x0b3\x0c4\r\n4  5   0    2     1\r\n\r\n4 3 4 5 0",
+            b"\r\nCELL_TYPES 4\r\n10\r\n0000000010\r\n00000000010\t010\r\n",
+        ],
+    ),
+    (
+        b"3.0",
+        [
+            b"",
+            b"CELLS 9 39\n3 0 1 2\n4 0 1 2 3\n4 1 1 2 2\n4 1 2 3 4\n0\n5 0 1 2 3 4\n4 5 0 2 1\n4 3 4 5 0\n2 0 5\n",
+            MIXED,
+        ],
+    ),
+    (
+        b"5.1",
+        [
+            b"",
+            b"CELLS 5 16\nOFFSETS int\n0 4 8 12 16\nCONNECTIVITY int\n0 1 2 3\n1 2 3 4\n5 0 2 1\n3 4 5 0\n",
+            b"",
+        ],
+    ),
+    (
+        b"5.1",
+        [
+            b"",
+            b"CELLS 5 16\r\nOFFSETS int\r\n0\t04 0000000008 00000000012\x0b16\r\nCONNECTIVITY int\r\n0\t1\x0b2\x0c3 000000001 0000000002 00000000003 4    5 0 2 1 3 4 5 0\r\n",
+            b"",
+        ],
+    ),
+    (
+        b"5.1",
+        [
+            b"",
+            b"CELLS 10 30\nOFFSETS int\n0 3 7 11 15 15 20 24 28 30\nCONNECTIVITY int\n0 1 2 0 1 2 3 1 1 2 2 1 2 3 4 0 1 2 3 4 5 0 2 1 3 4 5 0 0 5\n",
+            MIXED,
+        ],
+    ),
 ];
 
-/// Front parts of a text, the faulty token behind them, and its fault.
-pub const FAULTS_AHEAD: [([&[u8]; 4], &[u8], MeshKind); 20] = [
+/// The version and the parts in front of a faulty token, each plain where it is empty, the token, and its fault.
+pub const FAULTS_AHEAD: [(&[u8], [&[u8]; 3], &[u8], MeshKind); 14] = [
     (
-        [V3, b"POINTS 6 int\n0 0 0\n4 ", b"", b""],
+        b"3.0",
+        [b"POINTS 6 int\n0 0 0\n4 ", b" ", b" "],
         b"4.5",
         MeshKind::NotWhole,
     ),
     (
-        [V3, b"POINTS 6 int\n0 0 0\n4 ", b"", b""],
+        b"3.0",
+        [b"POINTS 6 int\n0 0 0\n4 ", b" ", b" "],
         b"1073741825",
         MeshKind::Range,
     ),
     (
-        [V3, b"POINTS 6 int\n0 0 0\n4 ", b"", b""],
-        b"1e",
-        MeshKind::Number,
-    ),
-    (
-        [V3, b"POINTS 6 int\n0 0 0\n4 ", b"", b""],
+        b"3.0",
+        [b"POINTS 6 int\n0 0 0\n4 ", b" ", b" "],
         b"4,0",
         MeshKind::Number,
     ),
     (
-        [V3, POINTS, b"CELLS 4 20\n4 0 1 2 3\n4 1 2 3 ", b""],
+        b"3.0",
+        [b"", b"CELLS 4 20\n4 0 1 2 3\n4 1 2 3 ", b" "],
         b"6",
         MeshKind::Index,
     ),
     (
-        [V3, POINTS, b"CELLS 4 20\n4 0 1 2 3\n4 1 2 3 ", b""],
+        b"3.0",
+        [b"", b"CELLS 4 20\n4 0 1 2 3\n4 1 2 3 ", b" "],
         b"0000000006",
         MeshKind::Index,
     ),
     (
-        [V3, POINTS, b"CELLS 4 20\n4 0 1 2 3\n4 1 2 3 ", b""],
+        b"3.0",
+        [b"", b"CELLS 4 20\n4 0 1 2 3\n4 1 2 3 ", b" "],
         b"+4",
         MeshKind::Number,
     ),
     (
-        [V3, POINTS, b"CELLS 4 20\n4 0 1 2 3\n4 1 2 3 ", b""],
-        b"4.",
-        MeshKind::Number,
-    ),
-    (
-        [V3, POINTS, b"CELLS 4 20\n4 0 1 2 3\n", b""],
+        b"3.0",
+        [b"", b"CELLS 4 20\n4 0 1 2 3\n", b" "],
         b"15",
         MeshKind::Size,
     ),
     (
-        [V3, POINTS, b"CELLS 4 20\n4 0 1 2 3\n", b""],
+        b"3.0",
+        [b"", b"CELLS 4 20\n4 0 1 2 3\n", b" "],
         b"4294967296",
         MeshKind::Count,
     ),
     (
-        [V3, POINTS, b"CELLS 4 9\n4 0 1 2 3\n", b""],
+        b"3.0",
+        [b"", b"CELLS 4 9\n4 0 1 2 3\n", b" "],
         b"4",
         MeshKind::Size,
     ),
     (
-        [V3, POINTS, CELLS, b"CELL_TYPES 4\n10\n"],
+        b"3.0",
+        [b"", b"", b"CELL_TYPES 4\n10\n"],
         b"11",
         MeshKind::CellType,
     ),
     (
-        [V3, POINTS, CELLS, b"CELL_TYPES 4\n10\n"],
-        b"5",
-        MeshKind::CellSize,
-    ),
-    (
-        [V3, POINTS, CELLS, b"CELL_TYPES 4\n10\n"],
-        b"1e1",
-        MeshKind::Number,
-    ),
-    (
+        b"3.0",
         [
-            V3,
-            POINTS,
+            b"",
             b"CELLS 3 15\n4 0 1 2 3\n4 1 2 1 4\n4 0 1 2 3\n",
             b"CELL_TYPES 3\n10\n",
         ],
@@ -318,9 +308,9 @@ pub const FAULTS_AHEAD: [([&[u8]; 4], &[u8], MeshKind); 20] = [
         MeshKind::SameVertex,
     ),
     (
+        b"3.0",
         [
-            V3,
-            POINTS,
+            b"",
             b"CELLS 3 14\n4 0 1 2 3\n3 1 2 4\n4 0 1 2 3\n",
             b"CELL_TYPES 3\n10\n",
         ],
@@ -328,45 +318,56 @@ pub const FAULTS_AHEAD: [([&[u8]; 4], &[u8], MeshKind); 20] = [
         MeshKind::CellSize,
     ),
     (
-        [V5, POINTS, b"CELLS 5 16\nOFFSETS int\n0 4 ", b""],
+        b"5.1",
+        [b"", b"CELLS 5 16\nOFFSETS int\n0 4 ", b" "],
         b"3",
         MeshKind::Size,
     ),
     (
-        [V5, POINTS, b"CELLS 5 16\nOFFSETS int\n0 4 ", b""],
-        b"17",
-        MeshKind::Size,
-    ),
-    (
+        b"5.1",
         [
-            V5,
-            POINTS,
+            b"",
             b"CELLS 5 16\nOFFSETS int\n0 4 8 12 16\n",
             b"CONNECTIVITY int\n0 1 2 3 1 ",
         ],
         b"6",
         MeshKind::Index,
     ),
-    (
-        [
-            V5,
-            POINTS,
-            b"CELLS 5 16\nOFFSETS int\n0 4 8 12 16\n",
-            b"CONNECTIVITY int\n0 1 2 3 1 ",
-        ],
-        b"2-",
-        MeshKind::Number,
-    ),
 ];
 
-/// Whether a text of these parts and this token has this fault at the token, also where it is cut in two.
+/// The part, or the plain one where it is empty.
+fn part_or<'a>(part: &'a [u8], plain: &'a [u8]) -> &'a [u8] {
+    if part.is_empty() { plain } else { part }
+}
+
+/// The text of this version with these parts and this token, and more lines behind it.
+pub fn spelled(
+    alloc: Global,
+    version: &[u8],
+    parts: [&[u8]; 3],
+    token: &[u8],
+) -> Result<Vec<u8>, AllocError> {
+    let [points, cells, types] = parts;
+    let mut text = b"# vtk DataFile Version ".to_vec(alloc)?;
+    text.extend_from_slice(version)?;
+    text.extend_from_slice(b"\nfour\nASCII\nDATASET UNSTRUCTURED_GRID\n")?;
+    text.extend_from_slice(part_or(points, POINTS))?;
+    text.extend_from_slice(part_or(cells, CELLS))?;
+    text.extend_from_slice(part_or(types, TYPES))?;
+    text.extend_from_slice(token)?;
+    text.extend_from_slice(BEHIND)?;
+    Ok(text)
+}
+
+/// Whether the text of these parts and this token has this fault at the token, also where it is cut in two.
 pub fn faulty_token(
     alloc: Global,
-    parts: [&[u8]; 4],
+    version: &[u8],
+    parts: [&[u8]; 3],
     token: &[u8],
     kind: MeshKind,
 ) -> Result<bool, AllocError> {
-    let text = joined(alloc, parts, token)?;
+    let text = spelled(alloc, version, parts, token)?;
     let place = text
         .len()
         .saturating_sub(token.len())
