@@ -1,2 +1,4 @@
 pub mod Known
 mod BlockRoom
+mod Headline
+mod DemoLemmas

@@ -16,14 +16,18 @@ use Rattle.octopus.specs.declared.words.Command.TheVariants.{Scan, Surface, Gen,
 use Rattle.octopus.specs.declared.refusal.Refusal.{Refusal}
 use Rattle.octopus.specs.declared.refusal.Refusal.TheVariants as refusals
 use Rattle.octopus.specs.Block.{block}
-use Rattle.octopus.specs.Words.{command_of}
+use Rattle.octopus.specs.declared.words.Played.{Played}
+use Rattle.octopus.specs.declared.words.Played.TheVariants.{Run, Demo}
+use Rattle.octopus.specs.Words.{command_of, played_of}
+use Rattle.octopus.specs.Demo.{demo_text}
 use Rattle.octopus.specs.Lines.{list_text, answer_text}
 
--- a file that is not there, a refusal, or a text
+-- a file that is not there, a refusal, a text, or the report of a job that is played
 pub data Due : Type 0 where
   Missing : Due
   Refuse : Refusal → Due
   Text : List ℕ → Due
+  Play : JobView → Due
 
 -- the most bytes of a mesh file
 abbrev pub mesh_limit : ℕ
@@ -82,3 +86,30 @@ abbrev pub due_of_words : Option (Command (List ℕ)) → Option Due
 due_of_words None = Some (Refuse refusals.Usage)
 due_of_words (Some (Gen side)) = Some (Text (mesh_spelling (block side)))
 due_of_words (Some _) = None
+
+-- ---- with threads
+
+-- what is due for what is played: the report of the job, or the summary of a demo
+abbrev pub due_of_played : Played (List ℕ) → Files → Due
+due_of_played (Run mesh script) files = with_job (files mesh) (files script) Play
+due_of_played (Demo side seed) files = Text (demo_text side seed)
+
+abbrev pub due_played : Option (Played (List ℕ)) → List (List ℕ) → Files → Due
+due_played None words files = due words files
+due_played (Some played) words files = due_of_played played files
+
+-- what is due for these words and these files where threads may be used
+unfoldable pub due_with_threads : List (List ℕ) → Files → Due
+due_with_threads words files = due_played (played_of words) words files
+
+-- what is due whatever the files are, where the words alone decide
+abbrev pub due_of_played_words : Played (List ℕ) → Option Due
+due_of_played_words (Run mesh script) = None
+due_of_played_words (Demo side seed) = Some (Text (demo_text side seed))
+
+abbrev pub due_played_at_once : Option (Played (List ℕ)) → List (List ℕ) → Option Due
+due_played_at_once None words = due_of_words (command_of words)
+due_played_at_once (Some played) words = due_of_played_words played
+
+abbrev pub due_at_once : List (List ℕ) → Option Due
+due_at_once words = due_played_at_once (played_of words) words

@@ -1,6 +1,7 @@
 pub mod Words
 pub mod Lines
 pub mod Refusals
+pub mod Demo
 pub mod Due
 pub mod Written
 pub mod Reading

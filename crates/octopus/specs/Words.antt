@@ -7,6 +7,8 @@ use Rattle.oct_text.specs.Numbers.{signed_of, count_of}
 use Rattle.mesh_base.specs.Place.{Place, Area}
 use Rattle.octopus.specs.declared.words.Command.{Command}
 use Rattle.octopus.specs.declared.words.Command.TheVariants as commands
+use Rattle.octopus.specs.declared.words.Played.{Played}
+use Rattle.octopus.specs.declared.words.Played.TheVariants as played
 use Rattle.octopus.specs.Block.{most_side}
 
 -- the coordinate that a word spells: a signed number from -2^30 to 2^30
@@ -94,3 +96,43 @@ named_as f (commands.Gen side) = commands.Gen side
 named_as f (commands.Step mesh script step) = commands.Step (f mesh) (f script) step
 named_as f (commands.Upgrade script) = commands.Upgrade (f script)
 named_as f (commands.Box mesh area) = commands.Box (f mesh) area
+
+-- ---- the commands that play a job
+
+-- the words behind `run`: MESH SCRIPT
+abbrev pub run_of : List (List ℕ) → Option (Played (List ℕ))
+run_of (mesh ∷ script ∷ []) = Some (played.Run mesh script)
+run_of _ = None
+
+-- the most cubes along a side of the block of a demo, and the greatest seed
+abbrev pub most_demo_side : ℕ
+most_demo_side = 40
+
+abbrev pub most_seed : ℕ
+most_seed = 65535
+
+abbrev pub demo_from : Option ℕ → Option ℕ → Option (Played (List ℕ))
+demo_from (Some side) (Some seed) = Some (played.Demo side seed)
+demo_from (Some side) None = None
+demo_from None seed = None
+
+-- the words behind `demo`: N SEED, a count from 1 to 40 and a count of at most 65,535
+abbrev pub demo_of : List (List ℕ) → Option (Played (List ℕ))
+demo_of (n ∷ seed ∷ []) = demo_from (side_of n most_demo_side) (result_ok (count_of seed most_seed))
+demo_of _ = None
+
+abbrev pub played_named : List ℕ → List (List ℕ) → Option (Played (List ℕ))
+played_named name rest =
+    if bytes_eq name (codes "run") then run_of rest
+    else if bytes_eq name (codes "demo") then demo_of rest
+    else None
+
+-- what the words ask to be played, if they do
+unfoldable pub played_of : List (List ℕ) → Option (Played (List ℕ))
+played_of [] = None
+played_of (name ∷ rest) = played_named name rest
+
+-- the same with other names of its files
+abbrev pub played_as : {M N : Type 0} → (M → N) → Played M → Played N
+played_as f (played.Run mesh script) = played.Run (f mesh) (f script)
+played_as f (played.Demo side seed) = played.Demo side seed

@@ -4,19 +4,23 @@ use Rattle.std.specs.Io.KnownBytes.{Appends, Keeps}
 use Rattle.octopus.specs.declared.status.Status.{Status}
 use Rattle.octopus.specs.declared.status.Status.TheVariants.{Done, Usage, Memory, ReadFault, WriteFault, TooLong, BadMesh, BadScript, NoStep}
 use Rattle.octopus.specs.Refusals.{status_of_refusal, refusal_line}
-use Rattle.octopus.specs.Due.{Due, Missing, Refuse, Text}
+use Rattle.run_script.specs.Jobs.{JobView}
+use Rattle.report.specs.Headline.{Reports}
+use Rattle.octopus.specs.Due.{Due, Missing, Refuse, Text, Play}
 
 -- the status that goes with what is due, where the files are there
 abbrev pub settled : Due → Option Status
 settled Missing = None
 settled (Refuse why) = Some (status_of_refusal why)
 settled (Text text) = Some Done
+settled (Play job) = Some Done
 
 -- x is the text that is due
 abbrev pub Spells : Due → List ℕ → Type 0
 Spells Missing x = ⊥
 Spells (Refuse why) x = x ≡ refusal_line why
 Spells (Text text) x = x ≡ text
+Spells (Play job) x = Reports job x
 
 -- the whole of a text that is due was added
 pub record Ends (due : Due) (old new : Option (List ℕ)) : Type 0 where
@@ -52,3 +56,9 @@ abbrev pub IsBadText : Status → Type 0
 IsBadText BadMesh = Unit {0}
 IsBadText BadScript = Unit {0}
 IsBadText _ = ⊥
+
+-- The bytes added are the report of the history that their journal lines print, and all that `Reports` says is true of it.
+pub record WritesReport (job : JobView) (old new : Option (List ℕ)) : Type 0 where
+  pub text : List ℕ
+  pub tells : Reports job text
+  pub added : Appends old new text

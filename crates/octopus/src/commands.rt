@@ -1,7 +1,9 @@
 //! The commands, each in a file of its own.
 
 pub mod box_answer;
+pub mod demo;
 pub mod gen_block;
+pub mod run;
 pub mod scan;
 pub mod step;
 pub mod surface;

@@ -4,6 +4,7 @@
 mod block;
 mod commands;
 mod deliver;
+mod demo_job;
 mod files;
 mod intake;
 mod lines;
@@ -11,11 +12,13 @@ mod outcome;
 mod plain;
 mod refusal;
 mod status;
+mod threads;
 mod words;
 
 use crate::plain::plain;
 use crate::status::Status;
-use oct_edge::{DiskFolder, StdSink};
+use crate::threads::octopus;
+use oct_edge::{DiskFolder, NoGate, StdSink};
 use std::process::ExitCode;
 use std::{env, io};
 
@@ -41,7 +44,14 @@ fn main(rt: HostRuntime) -> ExitCode {
     let status = match words_of(&rt) {
         Ok(words) => {
             let mut folder = DiskFolder::new(&rt);
-            plain(rt.alloc(), &words, &mut folder, &mut StdSink::new(&rt))
+            octopus(
+                &rt,
+                rt.alloc(),
+                &words,
+                &mut folder,
+                &mut StdSink::new(&rt),
+                &NoGate,
+            )
         }
         Err(error) => without_words(&rt, error.kind()),
     };

@@ -3,15 +3,19 @@
 mod answers;
 mod outside;
 mod refusals;
+mod runs;
 mod steps;
 mod texts;
 
-use crate::plain::plain;
 use crate::status::Status;
+use crate::threads::octopus;
 use mesh_base::NoMemory;
-use oct_edge::{ByteList, CallList, FileList, MemFolder, MemSink, NamedFile};
+use oct_edge::{ByteList, CallList, FileList, MemFolder, MemSink, NamedFile, NoGate};
 use std::alloc::Global;
+use std::marker::Sync;
 use std::process::Abort;
+use std::sync::Wait;
+use std::thread::Threads;
 
 // A file of a folder.
 fn file(alloc: Global, name: &str, text: &[u8]) -> Result<NamedFile, NoMemory> {
@@ -53,18 +57,20 @@ fn words(alloc: Global, line: &str) -> Result<Vec<String>, NoMemory> {
 
 // Runs the words of a line, where these calls on the folder and on the sink fail: the status, and what was written.
 fn run(
+    rt: &(impl Threads + Wait + Sync),
     alloc: Global,
     line: &str,
     mut from: MemFolder,
     mut to: MemSink,
 ) -> Result<(Status, Vec<u8>), NoMemory> {
-    let status = plain(alloc, &words(alloc, line)?, &mut from, &mut to);
+    let words = words(alloc, line)?;
+    let status = octopus(rt, alloc, &words, &mut from, &mut to, &NoGate);
     Ok((status, to.bytes().to_vec(alloc)?))
 }
 
 // Runs the words of a line, and looks at the status and at what was written.
 fn check(
-    rt: &impl Abort,
+    rt: &(impl Threads + Wait + Sync + Abort),
     alloc: Global,
     line: &str,
     mesh: &[u8],
@@ -73,7 +79,7 @@ fn check(
     written: &[u8],
 ) -> Result<(), NoMemory> {
     let from = folder(alloc, mesh, script, &[])?;
-    let (got, text) = run(alloc, line, from, sink(alloc, &[])?)?;
+    let (got, text) = run(rt, alloc, line, from, sink(alloc, &[])?)?;
     assert_eq!(rt; got, status, "the status of `{line}`");
     assert_eq!(rt; text.as_slice(), written, "what `{line}` wrote");
     Ok(())

@@ -4,7 +4,7 @@ ghost use Rattle.mesh_base.specs.Place.{IsCoordinate};
 ghost use Rattle.std.specs.Option.{option_map};
 ghost use Rattle.std.specs.String.{string_bytes};
 ghost use Rattle.octopus.specs.declared.words.Command.TheVariants.{Scan, Box};
-ghost use Rattle.octopus.specs.Words.{coordinate_of, corner_of, area_from, query_of, surface_of, side_of, gen_of, step_of, upgrade_of, command_of, named_as};
+ghost use Rattle.octopus.specs.Words.{coordinate_of, corner_of, area_from, query_of, surface_of, side_of, gen_of, step_of, upgrade_of, command_of, named_as, run_of, demo_of, played_of, played_as};
 
 use crate::block::{MOST_SIDE, Side};
 use mesh_base::{BoxQ, Point};
@@ -12,6 +12,9 @@ use oct_text::{count, signed};
 
 // The greatest number of a step that may be asked for.
 const MOST_STEP: u64 = 10_000;
+
+// The most cubes along a side of the block of a demo.
+const MOST_DEMO_SIDE: u64 = 40;
 
 /// What is to be done, with the names of the files that it reads.
 #[derive(Clone, Copy, Debug, PartialEq, Eq)]
@@ -28,6 +31,15 @@ pub enum Command<N> {
     Upgrade { script: N },
     /// The answer of the box.
     Box { mesh: N, area: BoxQ },
+}
+
+/// What is to be played by threads, with the names of the files that it reads.
+#[derive(Clone, Copy, Debug, PartialEq, Eq)]
+pub enum Played<N> {
+    /// The job of a mesh and a script.
+    Run { mesh: N, script: N },
+    /// The job of a demo: the block of so many cubes a side, at most 40, shaken with this seed.
+    Demo { side: Side, seed: u16 },
 }
 
 // The coordinate that a word spells.
@@ -150,6 +162,45 @@ pub fn read_command(words: &[String]) -> Option<Command<&str>>
         "step" => read_step(rest),
         "upgrade" => read_upgrade(rest),
         "box" => read_box(rest),
+        _ => None,
+    }
+}
+
+// The words behind `run`.
+fn read_run(words: &[String]) -> Option<Played<&str>>
+    ensures { option_map (played_as (λ name. name.now)) result ≡ run_of (map string_bytes words.now) }
+{
+    let [mesh, script] = words else {
+        return None;
+    };
+    let mesh = mesh.as_str();
+    let script = script.as_str();
+    Some(Played::Run { mesh, script })
+}
+
+// The words behind `demo`.
+fn read_demo(words: &[String]) -> Option<Played<&str>>
+    ensures { option_map (played_as (λ name. name.now)) result ≡ demo_of (map string_bytes words.now) }
+{
+    let [side, seed] = words else {
+        return None;
+    };
+    let side = read_side(side.as_str(), MOST_DEMO_SIDE)?;
+    let seed = count(seed.as_bytes(), u64::from(u16::MAX)).ok()? as u16;
+    Some(Played::Demo { side, seed })
+}
+
+/// What the words ask to be played, if they do.
+#[tactic(auto, unfolding(crate::specs::Words::played_of))]
+pub fn read_played(words: &[String]) -> Option<Played<&str>>
+    ensures { option_map (played_as (λ name. name.now)) result ≡ played_of (map string_bytes words.now) }
+{
+    let [name, rest @ ..] = words else {
+        return None;
+    };
+    match name.as_str() {
+        "run" => read_run(rest),
+        "demo" => read_demo(rest),
         _ => None,
     }
 }

@@ -5,8 +5,11 @@ use super::{folder, run, sink};
 use crate::status::Status;
 use mesh_base::NoMemory;
 use std::alloc::Global;
+use std::marker::Sync;
 use std::process::Abort;
+use std::sync::Wait;
 use std::test::Fail;
+use std::thread::Threads;
 
 // The words, how many calls on the folder they make until their files are read, and what they write. Of a file of 136
 // bytes there are the selection, 20 reads of at most 7 bytes, and the read at the end; of one of 88 bytes 13 reads.
@@ -20,18 +23,24 @@ const CALLS: [(&str, u64, &str); 5] = [
 
 // Runs the words where these calls on the folder and on the sink fail.
 fn run_failing(
+    rt: &(impl Threads + Wait + Sync),
     alloc: Global,
     line: &str,
     reads: &[u64],
     writes: &[u64],
 ) -> Result<(Status, Vec<u8>), NoMemory> {
     let from = folder(alloc, ONE.as_bytes(), THREE_SHIFTS.as_bytes(), reads)?;
-    run(alloc, line, from, sink(alloc, writes)?)
+    run(rt, alloc, line, from, sink(alloc, writes)?)
 }
 
 // Nothing is written where a read fails.
-fn check_read(rt: &impl Abort, alloc: Global, line: &str, call: u64) -> Result<(), NoMemory> {
-    let (status, written) = run_failing(alloc, line, &[call], &[])?;
+fn check_read(
+    rt: &(impl Threads + Wait + Sync + Abort),
+    alloc: Global,
+    line: &str,
+    call: u64,
+) -> Result<(), NoMemory> {
+    let (status, written) = run_failing(rt, alloc, line, &[call], &[])?;
     assert_eq!(rt; status, Status::ReadFault, "call {call} of `{line}`");
     assert!(rt; written.is_empty(), "call {call} of `{line}`");
     Ok(())
@@ -44,7 +53,7 @@ fn each_read_fails_in_turn(rt: HostRuntime) -> Result<(), Fail> {
         for call in 0..calls {
             check_read(&rt, alloc, line, call)?;
         }
-        let (status, written) = run_failing(alloc, line, &[calls], &[])?;
+        let (status, written) = run_failing(&rt, alloc, line, &[calls], &[])?;
         assert_eq!(rt; status, Status::Done, "`{line}`");
         assert_eq!(rt; written.as_slice(), text.as_bytes(), "`{line}`");
     }
@@ -53,13 +62,13 @@ fn each_read_fails_in_turn(rt: HostRuntime) -> Result<(), Fail> {
 
 // A text goes out in writes of at most 7 bytes, up to the one that fails.
 fn check_write(
-    rt: &impl Abort,
+    rt: &(impl Threads + Wait + Sync + Abort),
     alloc: Global,
     line: &str,
     text: &[u8],
     call: u64,
 ) -> Result<(), NoMemory> {
-    let (status, written) = run_failing(alloc, line, &[], &[call])?;
+    let (status, written) = run_failing(rt, alloc, line, &[], &[call])?;
     let front = text
         .chunks(7)
         .take(call as usize)

@@ -226,7 +226,7 @@ fn the_longest_script(rt: HostRuntime) -> Result<(), Fail> {
     for (count, status, written) in LONG {
         let script = signs(alloc, count)?;
         let from = folder(alloc, ONE.as_bytes(), &script, &[])?.with_most(1 << 16);
-        let (got, text) = run(alloc, "step m.vtk s.txt 0", from, sink(alloc, &[])?)?;
+        let (got, text) = run(&rt, alloc, "step m.vtk s.txt 0", from, sink(alloc, &[])?)?;
         assert_eq!(rt; got, status, "{count} bytes");
         assert_eq!(rt; text.as_slice(), written.as_bytes(), "{count} bytes");
     }

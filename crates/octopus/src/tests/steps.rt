@@ -101,7 +101,7 @@ fn steps_are_read_again(rt: HostRuntime) -> Result<(), Fail> {
     let alloc = rt.alloc();
     for (mesh, script, line, written) in REREAD {
         let from = folder(alloc, mesh.as_bytes(), script.as_bytes(), &[])?;
-        let (_, step) = run(alloc, "step m.vtk s.txt 1", from, sink(alloc, &[])?)?;
+        let (_, step) = run(&rt, alloc, "step m.vtk s.txt 1", from, sink(alloc, &[])?)?;
         check(
             &rt,
             alloc,

@@ -236,3 +236,16 @@ CELLS 1 5
 CELL_TYPES 1
 10
 ";
+
+/// One step, and a hold of two boxes on it.
+pub const HOLD: &str = "octopus script 2
+shift 1 0 0
+session
+wait 1
+hold
+box 0 0 0 1 0 0
+box 17 0 0 17 0 0
+free
+box 1 16 0 1 16 0
+end
+";

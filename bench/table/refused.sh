@@ -1,0 +1,71 @@
+#!/bin/sh
+# A small run by threads, with one allocation refused each time: how it ended.
+#
+# usage: bench/table/refused.sh [NUMBER..]     (default: 1 to 200 in steps of 7)
+#
+# For each number N it prints what `rt try --fail-alloc N` says of a program that plays a job of three steps and three
+# sessions: `whole`, `cut short` (the plan is closed, one step is held, the journal isn't whole), or `no run`, where memory was
+# refused before the workers began. Anything else is a failure, and so is a run that does not end within its time. It needs no
+# proof, and takes some seconds for each number.
+set -eu
+here=$(cd "$(dirname "$0")" && pwd)
+. "$here/../parts.sh"
+take_crates mesh_base oct_edge oct_text face_table edge_table topo move_kernels run_script script_format step_view job_steps \
+    probe_walk box_crawl box_query turn_table step_registry step_table run_threads
+new_program refused_run mesh_base oct_edge run_script script_format step_registry run_threads
+cat > "$program/src/main.rt" <<'RT'
+//! Plays a small job, and prints how the run ended.
+#![tactic(auto)]
+
+use mesh_base::{Cell, CellList, Mesh, NoMemory, Point, PointList};
+use oct_edge::NoGate;
+use run_script::Job;
+use run_threads::{Played, play_job};
+use script_format::read_script;
+use std::alloc::Global;
+use std::io;
+use step_registry::Registry;
+
+const TEXT: &[u8] = b"octopus script 2\nsplit 0 1 1 1\nshift 1 0 0\npoint 9 9 9\nrelax\nshake 7 3\nsession\nbox 0 0 0 7 7 7\nwait 1\nhold\nbox 0 0 0 7 0 0\nbox 1 1 1 1 1 1\nfree\nsession\nwait 3\nbox 0 0 0 7 7 7\nsession\nwait 2\nbox 0 0 0 1 1 1\nbox 0 0 0 7 0 0\nend\n";
+
+fn job_of(alloc: Global) -> Result<Option<Job>, NoMemory> {
+    let mut points = Vec::new(alloc);
+    for [x, y, z] in [[0, 0, 0], [4, 0, 0], [0, 4, 0], [0, 0, 4]] {
+        if let Some(at) = Point::new(x, y, z) {
+            points.push(at)?;
+        }
+    }
+    let mut cells = Vec::new(alloc);
+    cells.push(Cell::new([0, 1, 2, 3]))?;
+    match (Mesh::new(PointList::of(points), CellList::of(cells)), read_script(alloc, TEXT)) {
+        (Some(mesh), Ok(script)) => Ok(Job::check(alloc, mesh, script).ok()),
+        _ => Ok(None),
+    }
+}
+
+fn is_cut_short(registry: &Registry) -> bool {
+    registry.closed() && !registry.is_whole() && registry.held().len() == 1
+}
+
+fn ended(rt: &HostRuntime) -> &'static str {
+    let Ok(Some(job)) = job_of(rt.alloc()) else {
+        return "no run";
+    };
+    match play_job(rt, rt.alloc(), job, &NoGate) {
+        Ok(Played::Whole { registry }) if registry.is_whole() => "whole",
+        Ok(Played::NoMemory { registry }) if is_cut_short(&registry) => "cut short",
+        Ok(_) => "wrong",
+        Err(_) => "no run",
+    }
+}
+
+fn main(rt: HostRuntime) -> io::Result<()> {
+    let end = ended(&rt);
+    println!(rt; "{end}")
+}
+RT
+cd "$program"
+for number in ${*:-$(seq 1 7 200)}; do
+    end=$(rt try --fail-alloc "$number" 2> "$work/log" | grep -x -e 'whole' -e 'cut short' -e 'no run' -e 'wrong' || true)
+    echo "allocation $number refused: ${end:-did not end as a run may}"
+done
