@@ -3,15 +3,29 @@ top=$(cd "$here/../.." && pwd)
 work=$(mktemp -d)
 trap 'rm -rf "$work"' EXIT
 
-# take_crates CRATE..: copies of these crates in the temporary folder, each with its line of crates.txt
-take_crates() {
+# below CRATE..: these crates and all crates of the project that they stand on, by crates.txt, each once
+below() {
     for crate in "$@"; do
+        case " $taken " in *" $crate "*) continue ;; esac
+        taken="$taken $crate"
+        for next in $(sed -n "s/^$crate\\( [^:]*\\)*://p" "$top/crates.txt"); do
+            if [ -d "$top/crates/$next" ]; then below "$next"; fi
+        done
+    done
+}
+
+# take_crates CRATE..: copies of these crates and of all below them in the temporary folder, each with its line of crates.txt
+take_crates() {
+    taken=
+    below "$@"
+    for crate in $taken; do
         mkdir -p "$work/crates/$crate"
-        for part in src specs proofs out; do
+        for part in src specs proofs data out; do
             if [ -e "$top/crates/$crate/$part" ]; then cp -r "$top/crates/$crate/$part" "$work/crates/$crate/"; fi
         done
         grep "^$crate[ :]" "$top/crates.txt" >> "$work/crates.txt"
     done
+    cp "$top/HANDLES" "$work/HANDLES"
 }
 
 # new_program NAME CRATE..: a program over these crates, in the folder $program

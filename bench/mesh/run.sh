@@ -4,20 +4,12 @@
 # Usage: bench/mesh/run.sh [CUBES A SIDE] [ROUNDS]
 set -eu
 here=$(cd "$(dirname "$0")" && pwd)
-root=$(cd "$here/../.." && pwd)
 side=${1:-60}
 rounds=${2:-3}
-work=$(mktemp -d)
-trap 'rm -rf "$work"' EXIT
-
-mkdir -p "$work/crates/reading/src"
-for crate in mesh_base oct_text oct_edge face_table vtk_legacy octopus; do
-    cp -r "$root/crates/$crate" "$work/crates/$crate"
-done
-grep -E '^(mesh_base|oct_text|oct_edge|face_table|vtk_legacy|octopus)\b' "$root/crates.txt" > "$work/crates.txt"
-echo 'reading: mesh_base vtk_legacy' >> "$work/crates.txt"
-cp "$root/HANDLES" "$work/HANDLES"
-cat > "$work/crates/reading/src/main.rt" <<'RT'
+. "$here/../parts.sh"
+take_crates octopus
+new_program reading mesh_base vtk_legacy
+cat > "$program/src/main.rt" <<'RT'
 #![tactic(auto)]
 
 use std::env;
@@ -44,8 +36,8 @@ fn main(rt: HostRuntime) -> io::Result<()> {
 }
 RT
 (cd "$work/crates/octopus" && rt run -- gen "$side" > "$work/block.vtk" 2> "$work/log") || { tail "$work/log"; exit 1; }
-(cd "$work/crates/reading" && rt run -- /dev/null > "$work/log" 2>&1) || { tail "$work/log"; exit 1; }
-g++ -O2 -std=c++17 -o "$work/peer" "$here/peer.cpp"
+(cd "$program" && rt run -- /dev/null > "$work/log" 2>&1) || { tail "$work/log"; exit 1; }
+build_peer "$here/peer.cpp"
 
 # the seconds and the peak memory of a command
 measured() {
@@ -65,7 +57,7 @@ export SIZE
 echo "text of $SIZE bytes, block of $side cubes a side"
 for _ in $(seq "$rounds"); do
     measured pieces "$work/crates/octopus/out/octopus" scan "$work/block.vtk" 0 0 0 0 0 0
-    measured whole "$work/crates/reading/out/reading" "$work/block.vtk"
+    measured whole "$program/out/reading" "$work/block.vtk"
     measured c++ "$work/peer" "$work/block.vtk"
     measured wc wc -w "$work/block.vtk"
 done

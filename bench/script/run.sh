@@ -4,21 +4,11 @@
 # Usage: bench/script/run.sh [ROUNDS]
 set -eu
 here=$(cd "$(dirname "$0")" && pwd)
-root=$(cd "$here/../.." && pwd)
 rounds=${1:-5}
-work=$(mktemp -d)
-trap 'rm -rf "$work"' EXIT
-
-mkdir -p "$work/crates/reading/src"
-for crate in mesh_base oct_text run_script script_format; do
-    mkdir "$work/crates/$crate"
-    for part in src specs proofs out; do
-        if [ -e "$root/crates/$crate/$part" ]; then cp -r "$root/crates/$crate/$part" "$work/crates/$crate/"; fi
-    done
-done
-grep -E '^(mesh_base|oct_text|run_script|script_format)\b' "$root/crates.txt" > "$work/crates.txt"
-echo 'reading: mesh_base run_script script_format' >> "$work/crates.txt"
-cat > "$work/crates/reading/src/main.rt" <<'RT'
+. "$here/../parts.sh"
+take_crates script_format
+new_program reading mesh_base run_script script_format
+cat > "$program/src/main.rt" <<'RT'
 #![tactic(auto)]
 
 use mesh_base::{Edit, Point};
@@ -143,11 +133,11 @@ for s in range(8):
 lines.append("end")
 print("\n".join(lines))
 PY
-(cd "$work/crates/reading" && rt run -- "$work/script.txt" > "$work/log" 2>&1) || { cat "$work/log"; exit 1; }
-g++ -O2 -std=c++17 -o "$work/peer" "$here/peer.cpp"
+(cd "$program" && rt run -- "$work/script.txt" > "$work/log" 2>&1) || { cat "$work/log"; exit 1; }
+build_peer "$here/peer.cpp"
 size=$(wc -c < "$work/script.txt")
 echo "script of $size bytes"
 for _ in $(seq "$rounds"); do
-    "$work/crates/reading/out/reading" "$work/script.txt"
+    "$program/out/reading" "$work/script.txt"
     "$work/peer" "$work/script.txt"
 done | awk -v size="$size" '{ printf "%-11s %6.3f s  %7.1f MB/s  (sum %s)\n", $1, $2, size / $2 / 1e6, $3 }'

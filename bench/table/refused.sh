@@ -10,8 +10,7 @@
 set -eu
 here=$(cd "$(dirname "$0")" && pwd)
 . "$here/../parts.sh"
-take_crates mesh_base oct_edge oct_text face_table edge_table topo move_kernels run_script script_format step_view job_steps \
-    probe_walk box_crawl box_query turn_table step_registry step_table run_threads
+take_crates run_threads
 new_program refused_run mesh_base oct_edge run_script script_format step_registry run_threads
 cat > "$program/src/main.rt" <<'RT'
 //! Plays a small job, and prints how the run ended.

@@ -3,15 +3,11 @@
 # Both programs make the same text and print the same sum. Usage: bench/text/run.sh [ROUNDS]
 set -eu
 here=$(cd "$(dirname "$0")" && pwd)
-root=$(cd "$here/../.." && pwd)
 rounds=${1:-5}
-work=$(mktemp -d)
-trap 'rm -rf "$work"' EXIT
-
-mkdir -p "$work/crates/reading/src"
-cp -r "$root/crates/oct_text" "$work/crates/oct_text"
-printf 'oct_text: itoa\nreading: oct_text\n' > "$work/crates.txt"
-cat > "$work/crates/reading/src/main.rt" <<'RT'
+. "$here/../parts.sh"
+take_crates oct_text
+new_program reading oct_text
+cat > "$program/src/main.rt" <<'RT'
 #![tactic(auto)]
 
 use oct_text::{Taken, Tokens, put_number, put_text, whole};
@@ -68,9 +64,9 @@ fn main(rt: HostRuntime) -> io::Result<()> {
     println!(rt; "oct_text {len} {reading} {feeding} {total}")
 }
 RT
-(cd "$work/crates/reading" && rt run > "$work/log" 2>&1) || { cat "$work/log"; exit 1; }
+(cd "$program" && rt run > "$work/log" 2>&1) || { cat "$work/log"; exit 1; }
 rustc -O -o "$work/peer" "$here/peer.rs"
 for _ in $(seq "$rounds"); do
-    "$work/crates/reading/out/reading"
+    "$program/out/reading"
     "$work/peer"
 done | awk '{ printf "%-9s reads %7.1f MB/s", $1, $2 / $3 / 1e6; if ($4 > 0) printf ", feeds %7.1f MB/s", $2 / $4 / 1e6; printf "  (sum %s)\n", $5 }'
