@@ -1,4 +1,4 @@
-use Rattle.std.proofs.Common.{◌≡◌, ◌*◌, to_z, pos, w32, arith}
+use Rattle.std.proofs.Common.{◌*◌, w32, arith}
 use Rattle.std.proofs.lemmas.Int.{to_z_pos}
 use Rattle.octopus.proofs.demo_job.cubes_away.Goals as goal
 

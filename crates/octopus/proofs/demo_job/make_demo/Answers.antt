@@ -1,4 +1,4 @@
-use Rattle.std.proofs.Common.{◌≡◌, ap, ◌∙◌, subst}
+use Rattle.std.proofs.Common.{ap, ◌∙◌, subst}
 use Rattle.run_script.specs.Outcome.{IsFault}
 use Rattle.run_script.specs.Jobs.{checked}
 use Rattle.octopus.specs.Block.{block}

@@ -1,4 +1,4 @@
-use Rattle.std.proofs.Common.{◌≡◌, sym, subst, arith, replicate}
+use Rattle.std.proofs.Common.{sym, subst, arith, replicate}
 use Rattle.run_script.specs.Scripts.{IsScript}
 use Rattle.octopus.specs.Demo.{demo_steps, demo_plan}
 use Rattle.octopus.proofs.DemoLemmas.{script-fits}

@@ -1,7 +1,7 @@
-use Rattle.std.proofs.Common.{◌≡◌, ◌∙◌, sym, ap, subst}
+use Rattle.std.proofs.Common.{◌≡◌, ◌∙◌, ap, subst}
 use Rattle.std.specs.Prelude.{IfOk}
 use Rattle.step_registry.specs.Core.{IsWhole, answers_of}
-use Rattle.octopus.specs.Demo.{summary_by, demo_job}
+use Rattle.octopus.specs.Demo.{summary_by}
 use Rattle.octopus.proofs.DemoLemmas.{summary-is}
 use Rattle.octopus.proofs.commands.demo.run_demo.Goals as goal
 
