@@ -1,7 +1,7 @@
 #!/bin/sh
 # A small run by threads, with one allocation refused each time: how it ended.
 #
-# usage: bench/table/refused.sh [NUMBER..]     (default: 1 to 200 in steps of 7)
+# usage: bench/table/refused.sh [NUMBER..]     (default: 1 to 70 in steps of 3)
 #
 # For each number N it prints what `rt try --fail-alloc N` says of a program that plays a job of three steps and three
 # sessions: `whole`, `cut short` (the plan is closed, one step is held, the journal isn't whole), or `no run`, where memory was
@@ -23,6 +23,9 @@ use run_threads::{Played, play_job};
 use script_format::read_script;
 use std::alloc::Global;
 use std::io;
+use std::marker::Sync;
+use std::sync::Wait;
+use std::thread::Threads;
 use step_registry::Registry;
 
 const TEXT: &[u8] = b"octopus script 2\nsplit 0 1 1 1\nshift 1 0 0\npoint 9 9 9\nrelax\nshake 7 3\nsession\nbox 0 0 0 7 7 7\nwait 1\nhold\nbox 0 0 0 7 0 0\nbox 1 1 1 1 1 1\nfree\nsession\nwait 3\nbox 0 0 0 7 7 7\nsession\nwait 2\nbox 0 0 0 1 1 1\nbox 0 0 0 7 0 0\nend\n";
@@ -46,11 +49,11 @@ fn is_cut_short(registry: &Registry) -> bool {
     registry.closed() && !registry.is_whole() && registry.held().len() == 1
 }
 
-fn ended(rt: &HostRuntime) -> &'static str {
-    let Ok(Some(job)) = job_of(rt.alloc()) else {
+fn ended<R: Threads + Wait + Sync>(rt: &R, alloc: Global) -> &'static str {
+    let Ok(Some(job)) = job_of(alloc) else {
         return "no run";
     };
-    match play_job(rt, rt.alloc(), job, &NoGate) {
+    match play_job(rt, alloc, job, &NoGate) {
         Ok(Played::Whole { registry }) if registry.is_whole() => "whole",
         Ok(Played::NoMemory { registry }) if is_cut_short(&registry) => "cut short",
         Ok(_) => "wrong",
@@ -59,12 +62,12 @@ fn ended(rt: &HostRuntime) -> &'static str {
 }
 
 fn main(rt: HostRuntime) -> io::Result<()> {
-    let end = ended(&rt);
+    let end = ended(&rt, rt.alloc());
     println!(rt; "{end}")
 }
 RT
 cd "$program"
-for number in ${*:-$(seq 1 7 200)}; do
+for number in ${*:-$(seq 1 3 70)}; do
     end=$(rt try --fail-alloc "$number" 2> "$work/log" | grep -x -e 'whole' -e 'cut short' -e 'no run' -e 'wrong' || true)
     echo "allocation $number refused: ${end:-did not end as a run may}"
 done

@@ -28,6 +28,10 @@ use script_format::read_script;
 use std::alloc::Global;
 use std::env;
 use std::io;
+use std::marker::Sync;
+use std::rt::Clock;
+use std::sync::Wait;
+use std::thread::Threads;
 use std::time::Instant;
 
 // So many steps that move nothing, and sessions of so many boxes each, which wait for a step first.
@@ -60,12 +64,17 @@ fn job_of(alloc: Global, text: &str) -> io::Result<Option<Job>> {
 }
 
 // The least nanoseconds of some runs.
-fn time_runs(rt: &HostRuntime, rounds: u32, text: &str) -> io::Result<u128> {
+fn time_runs<R: Threads + Wait + Sync + Clock + Print>(
+    rt: &R,
+    alloc: Global,
+    rounds: u32,
+    text: &str,
+) -> io::Result<u128> {
     let mut least = u128::MAX;
     for _ in 0..rounds {
-        if let Some(job) = job_of(rt.alloc(), text)? {
+        if let Some(job) = job_of(alloc, text)? {
             let start = Instant::now(rt)?;
-            let registry = run_job(rt, rt.alloc(), job, &NoGate)?;
+            let registry = run_job(rt, alloc, job, &NoGate)?;
             least = least.min(start.elapsed(rt)?.as_nanos());
             if !registry.is_whole() {
                 println!(rt; "not whole")?;
@@ -88,12 +97,12 @@ fn main(rt: HostRuntime) -> io::Result<()> {
     }
     for sessions in [1, 2, 4, 8] {
         let text = script(rt.alloc(), 0, sessions, 80_000 / sessions, 0)?;
-        let turns = per_second(80_000, time_runs(&rt, rounds, text.as_str())?);
+        let turns = per_second(80_000, time_runs(&rt, rt.alloc(), rounds, text.as_str())?);
         println!(rt; "octopus  {sessions} sessions: {turns} turns a second")?;
     }
     for sessions in [0, 8] {
         let text = script(rt.alloc(), 10_000, sessions, 1, 10_000)?;
-        let steps = per_second(10_000, time_runs(&rt, rounds, text.as_str())?);
+        let steps = per_second(10_000, time_runs(&rt, rt.alloc(), rounds, text.as_str())?);
         println!(rt; "octopus  {sessions} sessions asleep: {steps} publishes a second")?;
     }
     Ok(())
