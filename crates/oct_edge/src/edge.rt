@@ -19,7 +19,7 @@ pub trait Folder {
     /// What is left of the current file, where the folder tells it. Before the first `select` nothing is.
     ghost rest: { Self → Option (List ℕ) };
 
-    /// How many calls have failed. The count stays at 2^64 - 1 once it is there.
+    /// How many calls have failed: one more for each. The count stays at 2^64 - 1 once it is there.
     ghost faults: { Self → ℕ };
 
     /// Makes a file the current one, from its first byte. A missing file is a failure.
@@ -44,7 +44,7 @@ pub trait Sink {
     /// All that was written, where the sink tells it.
     ghost written: { Self → Option (List ℕ) };
 
-    /// How many calls have failed. The count stays at 2^64 - 1 once it is there.
+    /// How many calls have failed: one more for each. The count stays at 2^64 - 1 once it is there.
     ghost faults: { Self → ℕ };
 
     /// Writes a front part of `piece` and says how many bytes it took: 0 only of an empty piece.

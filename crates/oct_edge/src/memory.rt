@@ -1,9 +1,9 @@
 //! The outside in memory, which tells all that it holds.
 ghost use Rattle.std.specs.Prelude.{◌≡◌, ℕ, ◌+◌, ◌-◌, ◌^◌, ◌<◌, ◌≤◌, List, [], length, take, min, IfOk, Some, None, MatchOption, is_err, replicate};
 ghost use Rattle.std.specs.Io.KnownBytes.{ReadConsumes, WriteAppends};
-ghost use Rattle.oct_edge.specs.Causes.{HasCause};
+ghost use Rattle.oct_edge.specs.Causes.{raised, HasCause};
 ghost use Rattle.oct_edge.specs.Outside.{Files, Selects, TakesPart};
-ghost use Rattle.oct_edge.specs.Memory.{raised, is_failing, FolderState, text_of, files_of, rest_at, read_len, select_fails, SinkState, write_fails, write_len, IsFolderCall, IsSinkCall};
+ghost use Rattle.oct_edge.specs.Memory.{is_failing, FolderState, text_of, files_of, rest_at, read_len, select_fails, SinkState, write_fails, write_len, IsFolderCall, IsSinkCall};
 
 use crate::edge::{Failed, Folder, Sink};
 use crate::lists::{CallList, FileList, NamedFile};
