@@ -99,7 +99,7 @@ impl Model for Job {
 }
 
 impl Job {
-    ghost use Rattle.std.specs.Prelude.{◌≡◌, ◌<◌, ◌≤◌, length, All};
+    ghost use Rattle.std.specs.Prelude.{◌≡◌, ◌<◌, ◌≤◌, [], length, All};
     ghost use Rattle.run_script.specs.Outcome.{Agrees};
     ghost use Rattle.run_script.specs.Scripts.{IsPlan};
     ghost use Rattle.run_script.specs.Jobs.{IsJob, IsTurn, EditsFit, checked, step_at, plan_at, turns_of, box_count, turn_count, all_boxes};
@@ -122,6 +122,19 @@ impl Job {
             plans,
             sessions,
         })
+    }
+
+    /// The job of a mesh alone, without plans and sessions. Nothing is checked or copied, and no memory is taken.
+    pub fn still(alloc: Global, mesh: Mesh) -> Job
+        ensures mesh { result.mesh ≡ mesh }
+        ensures plans { result.plans ≡ [] }
+        ensures sessions { result.sessions ≡ [] }
+    {
+        Job {
+            mesh,
+            plans: PlanList::of(Vec::new(alloc)),
+            sessions: Vec::new(alloc),
+        }
     }
 
     /// The mesh that the run begins with.

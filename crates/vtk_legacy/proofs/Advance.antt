@@ -5,7 +5,7 @@ use Rattle.std.proofs.lemmas.List.{append-nil, length-drop}
 use Rattle.std.proofs.lemmas.List.Sums.{prefix_len-le-length}
 use Rattle.std.specs.List.{prefix_len}
 use Rattle.oct_text.specs.Taken.{Takes, Waits, IsAtEnd, HasNoLine, HasNothing}
-use Rattle.oct_text.specs.Line.{IsLine, NoLine, line_front, TakesLine, HasLong, WaitsForLine, HasNoMore}
+use Rattle.oct_text.specs.Line.{IsLine, NoLine, line_front, TakesLine, HasLong, HasNoMore}
 use Rattle.oct_text.proofs.TokenLemmas.{next_token-past, end_of-past}
 use Rattle.vtk_legacy.specs.declared.fault.MeshKind.TheVariants as kinds
 use Rattle.vtk_legacy.specs.declared.fault.MeshFault.{MeshFault}
@@ -227,9 +227,6 @@ no_line s got r r' h = (kept_same s got r r' h.same, open_still s got r r' h.sam
 
 pub no_more_lines : (s : Stage) (got : Parts) (r r' : Rest) → HasNothing r r' → Keeps s got r s got r' × IsSpent s got r' × SameText r r'
 no_more_lines s got r r' h = (kept_same s got r r' h.same, spent_rest s got r' (ap (λ (x : Rest). x.bytes) h.same ∙ h.nothing), text_same r r' h.same)
-
-pub waits_line : (s : Stage) (got : Parts) (r r' : Rest) → WaitsForLine 256 r r' → Keeps s got r s got r' × IsSpent s got r' × SameText r r'
-waits_line s got r r' h = (kept_same s got r r' h.same, open_still s got r r' h.same h.unended, text_same r r' h.same)
 
 title_none : (got : Parts) (r : Rest) → line_front 256 r.bytes ≡ NoLine → IsSpent stage.Title got r
 unfolding goes_on in_title

@@ -33,9 +33,6 @@ keeps_on a b c g g' g'' r r' r'' e first second more none = first more none ∙ 
 text_on : (r r' r'' : Rest) → SameText r r' → SameText r' r'' → SameText r r''
 text_on r r' r'' first second = record { ended = second.ended ∙ first.ended; end = second.end ∙ first.end }
 
-pub passes_none : (a : Stage) (g : Parts) (r : Rest) → Passes a g r a g r
-passes_none a g r = (λ more none. refl, omega arith, record { ended = refl; end = refl })
-
 pub passes_on : (a b c : Stage) (g g' g'' : Parts) (r r' r'' : Rest) → Passes a g r b g' r' → Passes b g' r' c g'' r'' → Passes a g r c g'' r''
 passes_on a b c g g' g'' r r' r'' first second =
     (keeps_on a b c g g' g'' r r' r'' first.2.ended first.0 second.0, omega (arith, first.1, second.1), text_on r r' r'' first.2 second.2)

@@ -24,9 +24,6 @@ put_last-row k p rows r =
     let row : row_at (rows ++ r ∷ []) (length rows) ≡ r = get_or-append_seam rows r [] (empty_row 0) in
     rw (last, row) (set-append_seam rows r [] (with_corner r (r.count - k - 1) p))
 
-same_fill : (i j : ℕ) (ps corners : List ℕ) → i ≡ j → filled i ps corners ≡ filled j ps corners
-same_fill i j ps corners e = ap (λ (x : ℕ). filled x ps corners) e
-
 -- the last row gets the last k of its numbers
 put_all-from : (k : ℕ) (ps : List ℕ) (rows : List CellRow) (r : CellRow) → length ps ≡ k → k ≤ r.count
     → put_all k ps (rows ++ r ∷ []) ≡ rows ++ record { count = r.count; corners = filled (r.count - k) ps r.corners } ∷ []

@@ -1,6 +1,6 @@
 -- The points and cells of a mesh text are a mesh.
 use Rattle.std.proofs.Common.{◌≡◌, ℕ, zero, suc, ◌+◌, ◌-◌, ◌<◌, ◌≤◌, Bool, true, false, not, cond, List, [], ◌∷◌, length, take, drop, Result, Ok, Err, Option, Some, None, refl, sym, ap, subst, ◌∙◌, arith}
-use Rattle.std.specs.Prelude.{◌&&◌, ◌||◌, ◌==◌, nat_lt, nat_le, codes, All, IfSome}
+use Rattle.std.specs.Prelude.{◌&&◌, ◌||◌, ◌==◌, nat_lt, nat_le, codes, IfSome}
 use Rattle.std.specs.Str.Parse.{digits_value}
 use Rattle.std.proofs.lemmas.Bool.{ltb-true, leb-true, eqb-true, eqb-false}
 use Rattle.std.proofs.lemmas.List.Elements.{All-cons, All-nil}
@@ -23,10 +23,6 @@ abbrev Each : {A : Type 0} → (A → Type 0) → List A → Type 0
 Each P [] = Unit {0}
 Each P (x ∷ xs) = P x × Each P xs
 
-each-all : {A : Type 0} (P : A → Type 0) (xs : List A) → Each P xs → All P xs
-each-all P [] h = All-nil P
-each-all P (x ∷ xs) h = All-cons P x xs h.0 (each-all P xs h.1)
-
 each-take : {A : Type 0} (P : A → Type 0) (n : ℕ) (xs : List A) → Each P xs → Each P (take n xs)
 each-take P zero xs h = tt
 each-take P (suc n) [] h = tt
@@ -43,10 +39,6 @@ ok_part y x e = let h : y ≡ x = cc in ap (λ (z : _ × Left). z.0) h
 where_ok : {A : Type 0} (good : Bool) (y x : A × Left) (f : Fault) → cond {A = Read A} good (Ok y) (Err f) ≡ Ok x → (good ≡ true) × (y ≡ x)
 where_ok true y x f e = (refl, cc)
 where_ok false y x f e = absurd cc
-
-unless_ok : {A : Type 0} (bad : Bool) (y x : A × Left) (f : Fault) → cond {A = Read A} bad (Err f) (Ok y) ≡ Ok x → (bad ≡ false) × (y ≡ x)
-unless_ok true y x f e = absurd cc
-unless_ok false y x f e = (refl, cc)
 
 -- ---- counts
 

@@ -26,9 +26,6 @@ is_fault_before : (numeral known fits differ : Bool) (n : ℕ) (t : Token × Lef
 is_fault_before numeral known fits differ n t errors.NoMemory h = tt
 is_fault_before numeral known fits differ n t (errors.Bad kind place) h = fault_before numeral known fits differ n t _ h
 
-type_value : Token × Left → ℕ
-type_value t = digits_value 10 t.0.text
-
 pub type_err : (more : ℕ) (got : Parts) (row : CellRow) (t : Token × Left) (e : MeshFault) → row ≡ row_at got.rows (length got.rows - more - 1)
     → IsFault e (tested (is_numeral t.0.text) (known_type (digits_value 10 t.0.text)) (size_fits (digits_value 10 t.0.text) row.count) true (digits_value 10 t.0.text) t) → IsFault e (taking_type more got t)
 type_err more got row t e is h =

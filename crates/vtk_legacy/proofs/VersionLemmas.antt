@@ -18,9 +18,6 @@ both : (a b : Bool) → (a && b) ≡ true → (a ≡ true) × (b ≡ true)
 both true b h = (refl, h)
 both false b h = absurd cc
 
-after-below : (n most : ℕ) (b : ℕ) → n ≤ most → is_digit b ≡ true → n * 10 + digit_value b ≤ most * 10 + 9
-after-below n most b le h = omega (arith, digit-below b h)
-
 short-below : (text : List ℕ) → length text ≤ 3 → are_digits text ≡ true → digits_value 10 text ≤ 999
 short-below [] le h = omega arith
 short-below (a ∷ []) le h =

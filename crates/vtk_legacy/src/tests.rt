@@ -353,3 +353,18 @@ fn plain_and_other_spellings_at_each_cut(rt: HostRuntime) -> Result<(), Fail> {
     }
     Ok(())
 }
+
+// A caller that prints a fault says the place and what is wrong there.
+#[test]
+fn a_fault_is_told_in_words(rt: HostRuntime) -> Result<(), Fail> {
+    let alloc = rt.alloc();
+    let fault = MeshFault::Bad {
+        kind: MeshKind::NotWhole,
+        place: 120,
+    };
+    let told = format!(in alloc; "{fault}")?;
+    assert_eq!(rt; told.as_str(), "byte 120: a coordinate that isn't whole");
+    let told = format!(in alloc; "{}", MeshFault::NoMemory)?;
+    assert_eq!(rt; told.as_str(), "out of memory");
+    Ok(())
+}
