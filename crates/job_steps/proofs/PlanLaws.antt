@@ -13,9 +13,8 @@ use Rattle.mesh_base.specs.declared.edit.Edit.{Edit}
 use Rattle.mesh_base.specs.declared.edit.Edit.TheVariants as edit
 use Rattle.mesh_base.specs.declared.edit.Kernel.{Kernel}
 use Rattle.mesh_base.specs.declared.edit.Kernel.TheVariants as kernel
-use Rattle.topo.specs.Topology.{Topology, IsTopologyOf, Fits}
-use Rattle.move_kernels.specs.Motions.{IsKernel}
-use Rattle.run_script.specs.Scripts.{IsEdit, IsKernel as InRange}
+use Rattle.topo.specs.Topology.{Topology, IsTopologyOf}
+use Rattle.run_script.specs.Scripts.{IsEdit}
 use Rattle.run_script.specs.Jobs.{all_edited, EditsFit}
 use Rattle.run_script.specs.declared.script.LinedEdit.{LinedEdit}
 use Rattle.job_steps.specs.Added.{new_point, new_points, AllFit}
@@ -44,10 +43,7 @@ pub all_edited-points : (mesh : MeshView) (edits : List LinedEdit) → (all_edit
 all_edited-points mesh [] = sym (append-nil mesh.points)
 all_edited-points mesh (e ∷ edits) = all_edited-points (edited mesh e.edit) edits ∙ edited-points mesh e.edit (new_points edits)
 
--- the first of the edits fits, and the others after it
-pub first_fits : (t : Topology) (edits rest : List LinedEdit) (e : LinedEdit) → edits ≡ e ∷ rest → AllFit t edits → Fits t e.edit
-first_fits t edits rest e is fit = (fit.0, fit.1, (subst (EditsFit fit.0) is fit.2).0)
-
+-- the edits after the first fit the mesh that it leaves
 pub rest_fits : (t u : Topology) (edits rest : List LinedEdit) (e : LinedEdit) → edits ≡ e ∷ rest → AllFit t edits → ((mesh : MeshView) → IsTopologyOf mesh t → IsTopologyOf (edited mesh e.edit) u) → AllFit u rest
 rest_fits t u edits rest e is fit next = (edited fit.0 e.edit, next fit.0 fit.1, (subst (EditsFit fit.0) is fit.2).1)
 
@@ -101,12 +97,3 @@ points_in_range (e ∷ edits) all = by e.edit all.0 (points_in_range edits all.1
 
 pub new_points_in_range : (edits : List LinedEdit) → All (λ e. IsEdit e.edit) edits → All IsPlace (new_points edits)
 new_points_in_range edits all = All-from_recursion IsPlace (new_points edits) (points_in_range edits (recursion_from_All (λ e. IsEdit e.edit) edits all))
-
--- a kernel in range divides by a positive number
-pub kernel_in_range : (k : Kernel) → InRange k → IsKernel k
-kernel_in_range (kernel.Pull to num den) h = omega (arith, ints, h.3)
-kernel_in_range kernel.Stay h = tt
-kernel_in_range (kernel.Shift dx dy dz) h = tt
-kernel_in_range (kernel.Shake seed amp) h = tt
-kernel_in_range kernel.Relax h = tt
-kernel_in_range (kernel.Turn axis) h = tt

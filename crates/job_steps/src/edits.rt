@@ -60,7 +60,7 @@ fn joined(
         points.push_reserved(old.get(v));
     }
     points.extend_from_slice(added)?;
-    Positions::of(alloc, PointList::of(points))
+    Positions::after(alloc, old, PointList::of(points))
 }
 
 /// The places of the points of the shape: those of before, and behind them those of new points. Without new points they are

@@ -67,7 +67,8 @@ macro_rules! places_after {
             Kernel::Stay => Ok($ground.places.clone()?),
             _ => {
                 let _few = $ground.places.len();
-                Positions::of($alloc, $moved?)
+                let moved = $moved?;
+                Positions::after($alloc, &$ground.places, moved)
             }
         }
     };

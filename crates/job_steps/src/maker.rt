@@ -8,7 +8,7 @@ ghost use Rattle.step_view.specs.StepView.{step_of};
 ghost use Rattle.job_steps.specs.MakerView.{maker_at};
 
 use crate::ground::{edited, moved_alone, moved_in_threads};
-use mesh_base::{CellList, Mesh, NoMemory, Point, PointList};
+use mesh_base::{CellList, Mesh, NoMemory, Point};
 use run_script::Job;
 use std::alloc::{AllocError, Global};
 use std::marker::{Model, Sync};
@@ -59,7 +59,7 @@ fn parts_of(alloc: Global, mesh: &Mesh) -> Result<(Topo, Arc<Positions>), NoMemo
 {
     let count = mesh.points().len() as u32;
     are_places(mesh.points());
-    let places = Positions::of(alloc, PointList::of(mesh.points().to_vec(alloc)?))?;
+    let places = Positions::copied(alloc, mesh.points())?;
     let cells = CellList::of(mesh.cells().to_vec(alloc)?);
     let topo = Topo::build(alloc, count, cells)?;
     Ok((topo, places))
@@ -125,10 +125,10 @@ impl Maker {
     /// The next step, by as many threads as there are processors: the step after the last one made. After NoMemory the maker is
     /// lost: it has made as many steps as before, and every later call of `next` and `next_plain` answers NoMemory.
     ///
-    /// The edits of the plan cost what they cost in place. The new places are computed in one pass over the points, by the
-    /// threads together, and for a relaxation over all neighbours. Where the plan has edits, the cells, the neighbours and the
-    /// surface are copied, and where it adds points the places are copied once more. A plan that stays and adds no point copies
-    /// no place.
+    /// The edits of the plan cost what they cost in place, and of the cells and the neighbours the chunks that they change are
+    /// copied. The new places are computed in one pass over the points, by the threads together, and for a relaxation over all
+    /// neighbours; where the plan adds points the places are copied once before. A plan that stays and adds no point looks at no
+    /// place.
     pub fn next<R: Threads + Sync>(&mut self, rt: &R, alloc: Global) -> Result<Step, NoMemory>
         requires { self.old.made < steps self.old.job }
         ensures step { IfOk result (λ step. step ≡ step_of self.old.job (self.old.made + 1)) }

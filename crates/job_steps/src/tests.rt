@@ -1,5 +1,5 @@
 //! Steps of small jobs beside meshes that were worked out by hand.
-use crate::{first_step, mesh_of};
+use crate::{Maker, first_step, mesh_of};
 use mesh_base::{Cell, CellList, Mesh, Point, PointList};
 use run_script::Job;
 use script_format::read_script;
@@ -9,14 +9,137 @@ use std::test::Fail;
 use std::thread::Threads;
 use step_view::{Shares, Step};
 
-const SAMPLE: [[i32; 3]; 4] = [[0, 0, 0], [4, 0, 0], [0, 4, 0], [0, 0, 4]];
+// The job of a tetrahedron between four places and of a script, and its last step.
+struct Case {
+    places: &'static [[i32; 3]],
+    script: &'static str,
+    moved: &'static [[i32; 3]],
+    cells: &'static [[u32; 4]],
+    surface: &'static [u32],
+    near: &'static [&'static [u32]],
+}
+
+const SAMPLE: &[[i32; 3]] = &[[0, 0, 0], [4, 0, 0], [0, 4, 0], [0, 0, 4]];
+
+const ONE_CELL: &[[u32; 4]] = &[[0, 1, 2, 3]];
+
+const ALL: &[u32] = &[0, 1, 2, 3];
+
+const OTHERS: &[&[u32]] = &[&[1, 2, 3], &[0, 2, 3], &[0, 1, 3], &[0, 1, 2]];
 
 const FAR: i32 = 1 << 30;
 
-const ONE_CELL: [[u32; 4]; 1] = [[0, 1, 2, 3]];
-
 // The four zeros stand for an absent cell.
 const ABSENT: [u32; 4] = [0; 4];
+
+const CASES: &[Case] = &[
+    Case {
+        places: SAMPLE,
+        script: "octopus script 1\nend\n",
+        moved: SAMPLE,
+        cells: ONE_CELL,
+        surface: ALL,
+        near: OTHERS,
+    },
+    Case {
+        places: SAMPLE,
+        script: "octopus script 1\nshift 1 0 0\nshift 1 0 0\nshift 1 0 0\nend\n",
+        moved: &[[3, 0, 0], [7, 0, 0], [3, 4, 0], [3, 0, 4]],
+        cells: ONE_CELL,
+        surface: ALL,
+        near: OTHERS,
+    },
+    // a place is held in range
+    Case {
+        places: &[[FAR, 0, 0], [0, 0, 0], [0, 1, 0], [0, 0, 1]],
+        script: "octopus script 1\nshift 1 1 1\nend\n",
+        moved: &[[FAR, 1, 1], [1, 1, 1], [1, 2, 1], [1, 1, 2]],
+        cells: ONE_CELL,
+        surface: ALL,
+        near: OTHERS,
+    },
+    // the motion has the number of the step that is made
+    Case {
+        places: SAMPLE,
+        script: "octopus script 1\nshake 7 3\nend\n",
+        moved: &[[0, -3, 0], [2, -1, 1], [-2, 2, -3], [-2, 2, 4]],
+        cells: ONE_CELL,
+        surface: ALL,
+        near: OTHERS,
+    },
+    // two splits, the second of a part of the first
+    Case {
+        places: &[[0, 0, 0], [16, 0, 0], [0, 16, 0], [0, 0, 16]],
+        script: "octopus script 1\nsplit 0 4 4 4\nsplit 2 2 6 3\nstay\nsession\nbox 4 4 4 4 4 4\nend\n",
+        moved: &[
+            [0, 0, 0],
+            [16, 0, 0],
+            [0, 16, 0],
+            [0, 0, 16],
+            [4, 4, 4],
+            [2, 6, 3],
+        ],
+        cells: &[
+            ABSENT,
+            [4, 1, 2, 3],
+            ABSENT,
+            [0, 1, 4, 3],
+            [0, 1, 2, 4],
+            [5, 4, 2, 3],
+            [0, 5, 2, 3],
+            [0, 4, 5, 3],
+            [0, 4, 2, 5],
+        ],
+        surface: ALL,
+        near: &[
+            &[1, 2, 3, 4, 5],
+            &[0, 2, 3, 4],
+            &[0, 1, 3, 4, 5],
+            &[0, 1, 2, 4, 5],
+            &[0, 1, 2, 3, 5],
+            &[0, 2, 3, 4],
+        ],
+    },
+    // the motion of a step reads the neighbours and the places that its edits leave
+    Case {
+        places: SAMPLE,
+        script: "octopus script 1\nsplit 0 9 9 9\nrelax\nend\n",
+        moved: &[[3, 3, 3], [2, 3, 3], [3, 2, 3], [3, 3, 2], [1, 1, 1]],
+        cells: &[
+            ABSENT,
+            [4, 1, 2, 3],
+            [0, 4, 2, 3],
+            [0, 1, 4, 3],
+            [0, 1, 2, 4],
+        ],
+        surface: ALL,
+        near: &[
+            &[1, 2, 3, 4],
+            &[0, 2, 3, 4],
+            &[0, 1, 3, 4],
+            &[0, 1, 2, 4],
+            &[0, 1, 2, 3],
+        ],
+    },
+    // cells that lie on each other have no surface
+    Case {
+        places: SAMPLE,
+        script: "octopus script 1\nadd 0 1 2 3\nstay\nend\n",
+        moved: SAMPLE,
+        cells: &[[0, 1, 2, 3], [0, 1, 2, 3]],
+        surface: &[],
+        near: OTHERS,
+    },
+    // cells that went stay in the list as absent ones
+    Case {
+        places: SAMPLE,
+        script: "octopus script 1\nadd 0 1 2 3\nremove 0\nstay\nremove 1\nrelax\nend\n",
+        moved: SAMPLE,
+        cells: &[ABSENT, ABSENT],
+        surface: &[],
+        near: &[&[], &[], &[], &[]],
+    },
+];
 
 fn points(alloc: Global, places: &[[i32; 3]]) -> Result<Vec<Point>, Fail> {
     let mut list = Vec::new(alloc);
@@ -35,46 +158,18 @@ fn cells(alloc: Global, corners: &[[u32; 4]]) -> Result<Vec<Option<Cell>>, Fail>
     Ok(list)
 }
 
-// The cells after two splits of one cell, the second of them of one of its parts.
-const SPLIT_TWICE: [[u32; 4]; 9] = [
-    ABSENT,
-    [4, 1, 2, 3],
-    ABSENT,
-    [0, 1, 4, 3],
-    [0, 1, 2, 4],
-    [5, 4, 2, 3],
-    [0, 5, 2, 3],
-    [0, 4, 5, 3],
-    [0, 4, 2, 5],
-];
-
-// Whether the points have the neighbours that these give them.
-fn has_their_neighbours(step: &Step) -> bool {
-    let near: [&[u32]; 6] = [
-        &[1, 2, 3, 4, 5],
-        &[0, 2, 3, 4],
-        &[0, 1, 3, 4, 5],
-        &[0, 1, 2, 4, 5],
-        &[0, 1, 2, 3, 5],
-        &[0, 2, 3, 4],
-    ];
-    for (v, row) in near.iter().enumerate() {
-        if v >= step.points() as usize || step.neighbours(v as u32) != *row {
-            return false;
-        }
-    }
-    step.points() == 6
-}
-
-// The job of the tetrahedron between these four places and of a script.
-fn job_of(alloc: Global, places: &[[i32; 3]], script: &str) -> Result<Arc<Job>, Fail> {
-    let places = PointList::of(points(alloc, places)?);
-    let mesh = Mesh::new(places, CellList::of(cells(alloc, &ONE_CELL)?)).ok_or("limits")?;
-    let text = script.as_bytes();
+// The job of a mesh and of a script.
+fn job_of(
+    alloc: Global,
+    points: Vec<Point>,
+    cells: Vec<Option<Cell>>,
+    text: &str,
+) -> Result<Arc<Job>, Fail> {
     if text.len() > 1000 {
         return Err(Fail::new("script"));
     }
-    let script = match read_script(alloc, text) {
+    let mesh = Mesh::new(PointList::of(points), CellList::of(cells)).ok_or("limits")?;
+    let script = match read_script(alloc, text.as_bytes()) {
         Ok(script) => script,
         Err(fault) => return Err(Fail::new(format_args!("{fault:?}"))),
     };
@@ -84,146 +179,80 @@ fn job_of(alloc: Global, places: &[[i32; 3]], script: &str) -> Result<Arc<Job>, 
     }
 }
 
-// Whether the step's mesh has these places and cells.
-fn has(
-    alloc: Global,
-    step: &Step,
-    places: &[[i32; 3]],
-    corners: &[[u32; 4]],
-) -> Result<bool, Fail> {
-    let mesh = mesh_of(alloc, step)?;
-    let same_places = mesh.points() == points(alloc, places)?.as_slice();
-    let same_cells = mesh.cells() == cells(alloc, corners)?.as_slice();
-    Ok(same_places && same_cells)
-}
-
-// Whether two steps have one number, and equal meshes.
-fn is_same(alloc: Global, a: &Step, b: &Step) -> Result<bool, Fail> {
-    let (one, other) = (mesh_of(alloc, a)?, mesh_of(alloc, b)?);
-    Ok(a.number() == b.number() && one.points() == other.points() && one.cells() == other.cells())
-}
-
-// The last step of the job. Each is made twice, alone and in threads, and both have equal meshes.
-fn last_step(rt: &(impl Threads + Sync), alloc: Global, job: &Arc<Job>) -> Result<Step, Fail> {
-    let (mut step, mut alone) = first_step(alloc, job.clone()?)?;
-    let (_first, mut threads) = first_step(alloc, job.clone()?)?;
+// The last step of the job, made by one thread.
+fn last_alone(alloc: Global, job: &Arc<Job>) -> Result<Step, Fail> {
+    let (mut step, mut maker) = first_step(alloc, job.clone()?)?;
     for k in 0..job.steps() {
-        if alone.made() != k || threads.made() != k {
+        if maker.made() != k {
             return Err(Fail::new(k));
         }
-        step = alone.next_plain(alloc)?;
-        let other = threads.next(rt, alloc)?;
-        if !is_same(alloc, &step, &other)? {
-            return Err(Fail::new(k));
-        }
+        step = maker.next_plain(alloc)?;
     }
     Ok(step)
 }
 
-// Whether the script moves the points of one cell to these places.
-fn has_moved(
+// The same, by threads.
+fn last_in_threads(
     rt: &(impl Threads + Sync),
     alloc: Global,
-    places: [[i32; 3]; 4],
-    script: &str,
-    wanted: [[i32; 3]; 4],
-) -> Result<bool, Fail> {
-    let job = job_of(alloc, &places, script)?;
-    let step = last_step(rt, alloc, &job)?;
-    has(alloc, &step, &wanted, &ONE_CELL)
-}
-
-#[test]
-fn points_move_by_their_plans(rt: HostRuntime) -> Result<(), Fail> {
-    let alloc = rt.alloc();
-    for (places, script, wanted) in [
-        (SAMPLE, "octopus script 1\nend\n", SAMPLE),
-        (
-            SAMPLE,
-            "octopus script 1\nshift 1 0 0\nshift 1 0 0\nshift 1 0 0\nend\n",
-            [[3, 0, 0], [7, 0, 0], [3, 4, 0], [3, 0, 4]],
-        ),
-        // a place is held in range
-        (
-            [[FAR, 0, 0], [0, 0, 0], [0, 1, 0], [0, 0, 1]],
-            "octopus script 1\nshift 1 1 1\nend\n",
-            [[FAR, 1, 1], [1, 1, 1], [1, 2, 1], [1, 1, 2]],
-        ),
-        // the motion has the number of the step that is made
-        (
-            SAMPLE,
-            "octopus script 1\nshake 7 3\nend\n",
-            [[0, -3, 0], [2, -1, 1], [-2, 2, -3], [-2, 2, 4]],
-        ),
-    ] {
-        assert!(rt; has_moved(&rt, alloc, places, script, wanted)?, "{script}");
+    job: &Arc<Job>,
+) -> Result<Step, Fail> {
+    let (mut step, mut maker) = first_step(alloc, job.clone()?)?;
+    for k in 0..job.steps() {
+        if maker.made() != k {
+            return Err(Fail::new(k));
+        }
+        step = maker.next(rt, alloc)?;
     }
-    Ok(())
+    Ok(step)
 }
 
-// Two splits, the second of a part of the first.
-#[test]
-fn edits_change_the_mesh(rt: HostRuntime) -> Result<(), Fail> {
-    let alloc = rt.alloc();
-    let text =
-        "octopus script 1\nsplit 0 4 4 4\nsplit 2 2 6 3\nstay\nsession\nbox 4 4 4 4 4 4\nend\n";
-    let places = [[0, 0, 0], [16, 0, 0], [0, 16, 0], [0, 0, 16]];
-    let job = job_of(alloc, &places, text)?;
-    let step = last_step(&rt, alloc, &job)?;
-    let all = [
-        [0, 0, 0],
-        [16, 0, 0],
-        [0, 16, 0],
-        [0, 0, 16],
-        [4, 4, 4],
-        [2, 6, 3],
-    ];
-    assert!(rt; has(alloc, &step, &all, &SPLIT_TWICE)?);
-    assert!(rt; step.surface() == [0, 1, 2, 3].as_slice());
-    assert!(rt; has_their_neighbours(&step));
-    Ok(())
+// Whether the step's mesh has the places and cells that are wanted.
+fn has_mesh(alloc: Global, step: &Step, wanted: &Case) -> Result<bool, Fail> {
+    let mesh = mesh_of(alloc, step)?;
+    let places = points(alloc, wanted.moved)?;
+    let cells = cells(alloc, wanted.cells)?;
+    Ok(mesh.points() == places.as_slice() && mesh.cells() == cells.as_slice())
 }
 
-// The motion of a step reads the neighbours and the places that its edits leave.
-#[test]
-fn edits_come_before_the_motion(rt: HostRuntime) -> Result<(), Fail> {
-    let alloc = rt.alloc();
-    let job = job_of(
-        alloc,
-        &SAMPLE,
-        "octopus script 1\nsplit 0 9 9 9\nrelax\nend\n",
-    )?;
-    let step = last_step(&rt, alloc, &job)?;
-    let places = [[3, 3, 3], [2, 3, 3], [3, 2, 3], [3, 3, 2], [1, 1, 1]];
-    let cells = [
-        ABSENT,
-        [4, 1, 2, 3],
-        [0, 4, 2, 3],
-        [0, 1, 4, 3],
-        [0, 1, 2, 4],
-    ];
-    assert!(rt; has(alloc, &step, &places, &cells)?);
-    Ok(())
+// Whether its points have these neighbours, and are so many.
+fn has_neighbours(step: &Step, near: &[&[u32]]) -> bool {
+    for v in 0..step.points() {
+        match near.get(v as usize) {
+            Some(row) if step.neighbours(v) == *row => {}
+            _ => return false,
+        }
+    }
+    step.points() as usize == near.len()
 }
 
-// Cells that lie on each other have no surface, and cells that went stay in the list as absent ones.
+// Whether the step is what is wanted.
+fn is_as_wanted(alloc: Global, step: &Step, wanted: &Case) -> Result<bool, Fail> {
+    Ok(
+        has_mesh(alloc, step, wanted)?
+            && step.surface() == wanted.surface
+            && has_neighbours(step, wanted.near),
+    )
+}
+
+// Whether both ways to make the last step of a job make the one that is wanted.
+fn is_made(rt: &(impl Threads + Sync), alloc: Global, wanted: &Case) -> Result<bool, Fail> {
+    let places = points(alloc, wanted.places)?;
+    let job = job_of(alloc, places, cells(alloc, ONE_CELL)?, wanted.script)?;
+    let alone = last_alone(alloc, &job)?;
+    let other = last_in_threads(rt, alloc, &job)?;
+    Ok(
+        alone.number() == other.number()
+            && is_as_wanted(alloc, &alone, wanted)?
+            && is_as_wanted(alloc, &other, wanted)?,
+    )
+}
+
 #[test]
-fn cells_come_and_go(rt: HostRuntime) -> Result<(), Fail> {
+fn steps_are_made_by_their_plans(rt: HostRuntime) -> Result<(), Fail> {
     let alloc = rt.alloc();
-    for (script, cells) in [
-        (
-            "octopus script 1\nadd 0 1 2 3\nstay\nend\n",
-            [[0, 1, 2, 3], [0, 1, 2, 3]],
-        ),
-        (
-            "octopus script 1\nadd 0 1 2 3\nremove 0\nstay\nremove 1\nrelax\nend\n",
-            [ABSENT, ABSENT],
-        ),
-    ] {
-        let job = job_of(alloc, &SAMPLE, script)?;
-        let step = last_step(&rt, alloc, &job)?;
-        assert!(rt; has(alloc, &step, &SAMPLE, &cells)?, "{script}");
-        assert!(rt; step.surface().is_empty(), "{script}");
+    for wanted in CASES {
+        assert!(rt; is_made(&rt, alloc, wanted)?, "{}", wanted.script);
     }
     Ok(())
 }
@@ -232,7 +261,8 @@ fn cells_come_and_go(rt: HostRuntime) -> Result<(), Fail> {
 #[test]
 fn steps_have_their_shares(rt: HostRuntime) -> Result<(), Fail> {
     let alloc = rt.alloc();
-    let job = job_of(alloc, &SAMPLE, "octopus script 1\nsession\nsession\nend\n")?;
+    let text = "octopus script 1\nsession\nsession\nend\n";
+    let job = job_of(alloc, points(alloc, SAMPLE)?, cells(alloc, ONE_CELL)?, text)?;
     let (step, _maker) = first_step(alloc, job)?;
     let mut shares = Shares::make(alloc, step)?;
     assert_eq!(rt; shares.count(), 3);
@@ -242,4 +272,79 @@ fn steps_have_their_shares(rt: HostRuntime) -> Result<(), Fail> {
     assert_eq!(rt; shares.count(), 3);
     assert_eq!(rt; shares.step().points(), 4);
     Ok(())
+}
+
+// The points of a block of 16 cubes a side, each of which is 16 wide: 4,913 in two chunks.
+fn block_points(alloc: Global) -> Result<Vec<Point>, Fail> {
+    let mut list = Vec::with_capacity(alloc, 4_913)?;
+    for n in 0i32..4_913 {
+        let (i, j, k) = (n % 17, n / 17 % 17, n / 289);
+        list.push(Point::new(16 * i, 16 * j, 16 * k).ok_or("place")?)?;
+    }
+    Ok(list)
+}
+
+// The six cells of a cube whose least corner is p: each lies along the long diagonal.
+fn cube(p: u32) -> [[u32; 4]; 6] {
+    let (x, y, z) = (p.wrapping_add(1), p.wrapping_add(17), p.wrapping_add(289));
+    let (xy, xz, yz) = (p.wrapping_add(18), p.wrapping_add(290), p.wrapping_add(306));
+    let xyz = p.wrapping_add(307);
+    [
+        [p, x, xy, xyz],
+        [p, x, xz, xyz],
+        [p, y, xy, xyz],
+        [p, y, yz, xyz],
+        [p, z, xz, xyz],
+        [p, z, yz, xyz],
+    ]
+}
+
+// The cells of that block.
+fn block_cells(alloc: Global) -> Result<Vec<Option<Cell>>, Fail> {
+    let mut list = Vec::with_capacity(alloc, 24_576)?;
+    for n in 0u32..4_096 {
+        let (i, j, k) = (n % 16, n / 16 % 16, n / 256);
+        for four in cube(i + 17 * j + 289 * k) {
+            list.push(Cell::new(four))?;
+        }
+    }
+    Ok(list)
+}
+
+// How many live cells the step has, and the place of its last point.
+fn seen_of(alloc: Global, step: &Step) -> Result<(usize, Option<Point>), Fail> {
+    let mesh = mesh_of(alloc, step)?;
+    let live = mesh.cells().iter().filter(|cell| cell.is_some()).count();
+    Ok((live, mesh.points().get(4_912).copied()))
+}
+
+// Step 0 of the job, and the one after it, both by one maker.
+fn first_two(alloc: Global, job: Arc<Job>) -> Result<(Step, Step), Fail> {
+    if job.steps() == 0 {
+        return Err(Fail::new("no plan"));
+    }
+    let (held, mut maker) = first_step(alloc, job)?;
+    let next = maker.next_plain(alloc)?;
+    Ok((held, next))
+}
+
+// A step that is held stays as it is while the next one is made, with which it shares chunks.
+#[test]
+fn held_steps_stay(rt: HostRuntime) -> Result<(), Fail> {
+    let alloc = rt.alloc();
+    let text = "octopus script 1\nremove 0\nstay\nend\n";
+    let job = job_of(alloc, block_points(alloc)?, block_cells(alloc)?, text)?;
+    let (held, next) = first_two(alloc, job)?;
+    let last = Point::new(256, 256, 256);
+    assert_eq!(rt; seen_of(alloc, &held)?, (24_576, last));
+    assert_eq!(rt; seen_of(alloc, &next)?, (24_575, last));
+    Ok(())
+}
+
+fn may_be_sent<T: Send>() {}
+
+// The thread that publishes steps takes the maker with it.
+#[test]
+fn makers_may_be_sent(_rt: HostRuntime) {
+    may_be_sent::<Maker>();
 }

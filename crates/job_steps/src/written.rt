@@ -27,6 +27,8 @@ pub fn mesh_of(alloc: Global, step: &Step) -> Result<Mesh, NoMemory>
     ensures { IfOk result (λ mesh. mesh ≡ step.now.mesh) }
 {
     let places = places_of::<Brand>(alloc, Blank::new(1), step)?;
-    let cells = CellList::of(step.shape().cells().to_vec(alloc)?);
+    let shape = step.shape();
+    let _valid = shape.cells();
+    let cells = CellList::of(shape.to_cells(alloc)?);
     Ok(Mesh::new(places, cells).unwrap())
 }

@@ -1,1 +1,4 @@
 pub mod TopologyLaws
+pub mod ChunkLaws
+pub mod StayLaws
+pub mod ShapeLaws

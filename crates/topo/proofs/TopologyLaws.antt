@@ -17,9 +17,6 @@ use Rattle.topo.specs.Topology.{Topology, IsTopologyOf, IsTopology, Fits}
 use Rattle.topo.specs.Tables.{AreTables, IsRowAt}
 
 -- what a topology says of each mesh that has it
-pub surface_of : (mesh : MeshView) (t : Topology) → IsTopologyOf mesh t → filter (is_surface t.cells) (range_with_len 0 t.points) ≡ surface mesh
-surface_of mesh t h = ap (λ cells. filter (is_surface cells) (range_with_len 0 t.points)) (sym h.1) ∙ ap (λ n. filter (is_surface mesh.cells) (range_with_len 0 n)) (sym h.0)
-
 pub neighbours_of : (mesh : MeshView) (t : Topology) (v : ℕ) → IsTopologyOf mesh t → filter (are_neighbours t.cells v) (range_with_len 0 t.points) ≡ neighbours mesh v
 neighbours_of mesh t v h = ap (λ cells. filter (are_neighbours cells v) (range_with_len 0 t.points)) (sym h.1) ∙ ap (λ n. filter (are_neighbours mesh.cells v) (range_with_len 0 n)) (sym h.0)
 
@@ -64,21 +61,6 @@ live-absent (None ∷ cells) (suc last) e none = live-absent cells last (omega a
 live-absent (Some c ∷ cells) (suc last) e none = ap (λ l. c ∷ l) (live-absent cells last (omega arith) none)
 
 -- what a topology keeps
-AreWithin-more : (m n : ℕ) (cells : List (Option Corners)) → m ≤ n → AreWithin m cells → AreWithin n cells
-AreWithin-more m n cells le a = All-weaker (λ cell. IfSome cell (IsWithin m)) (λ cell. IfSome cell (IsWithin n)) more cells a
-  where
-    more : (cell : Option Corners) → IfSome cell (IsWithin m) → IfSome cell (IsWithin n)
-    more None h = tt
-    more (Some c) h = (omega arith, omega arith, omega arith, omega arith)
-
-pub IsTopology-point : (n : ℕ) (cells : List (Option Corners)) → n < 1000000 → IsTopology n cells → IsTopology (n + 1) cells
-IsTopology-point n cells lt valid = record {
-  few_points = omega arith;
-  few_cells = valid.few_cells;
-  within = AreWithin-more n (n + 1) cells (omega arith) valid.within;
-  different = valid.different;
-}
-
 pub IsTopology-push : (n : ℕ) (cells : List (Option Corners)) (c : Corners) → length cells < 4000000 → IsWithin n c → AreDifferent c → IsTopology n cells → IsTopology n (cells ++ Some c ∷ [])
 IsTopology-push n cells c lt w d valid = record {
   few_points = valid.few_points;
@@ -196,15 +178,6 @@ module _ (n : ℕ) (cells : List (Option Corners)) (faces newer_faces : Tally) (
     face_points = fp ∙ tables.face_points;
     edge_points = ep ∙ tables.edge_points;
   }
-
--- the table of faces, after a put and a take of the last cell, is that of the cells before
-pub tally-back : (cells : List (Option Corners)) (c : Corners) (t : Tally) → IsTallyOf (set (cells ++ Some c ∷ []) (length cells) None) t → IsTallyOf cells t
-tally-back cells c t h = tally-same (set (cells ++ Some c ∷ []) (length cells) None) cells t (back cells) h
-  where
-    back : (cells : List (Option Corners)) → live (set (cells ++ Some c ∷ []) (length cells) None) ≡ live cells
-    back [] = refl
-    back (None ∷ cells) = back cells
-    back (Some d ∷ cells) = ap (λ l. d ∷ l) (back cells)
 
 -- cells that come at the end leave the one at i as it is
 pub cell_at-append : (xs ys : List (Option Corners)) (i : ℕ) (c : Corners) → cell_at xs i ≡ Some c → cell_at (xs ++ ys) i ≡ Some c

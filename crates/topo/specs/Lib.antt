@@ -1,2 +1,5 @@
 pub mod Topology
 pub mod Tables
+pub mod Chunks
+pub mod RowChunks
+pub mod Shapes

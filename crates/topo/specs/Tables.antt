@@ -19,10 +19,3 @@ pub record IsRowAt (starts near : List ℕ) (v : ℕ) (row : List ℕ) : Type 0 
   pub ordered : slice_index starts v ≤ slice_index starts (v + 1)
   pub ends : slice_index starts (v + 1) ≤ length near
   pub part : take (slice_index starts (v + 1) - slice_index starts v) (drop (slice_index starts v) near) ≡ row
-
--- the lists are the surface of these cells, and the neighbours of each point one after the other
-pub record IsShape (points : ℕ) (cells : List (Option Corners)) (surface starts near : List ℕ) : Type 0 where
-  pub valid : IsTopology points cells
-  pub listed : surface ≡ filter (is_surface cells) (range_with_len 0 points)
-  pub starts_len : length starts ≡ points + 1
-  pub rows : (v : ℕ) → v < points → IsRowAt starts near v (filter (are_neighbours cells v) (range_with_len 0 points))

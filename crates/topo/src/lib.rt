@@ -8,8 +8,13 @@
 //! places, so their contracts speak of every mesh with so many points and these cells.
 #![tactic(auto)]
 
+mod cells;
+mod chunks;
+mod kept;
 mod positions;
+mod rows;
 mod shape;
+mod surface;
 mod tables;
 mod topo;
 

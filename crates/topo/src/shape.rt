@@ -1,67 +1,73 @@
 //! What a mesh is without the places of its points, as it was once.
-ghost use Rattle.std.specs.Prelude.{◌≡◌, ◌==◌, ℕ, not, ◌+◌, ◌<◌, ◌≤◌, length, filter, IfOk};
+ghost use Rattle.std.specs.Prelude.{◌≡◌, ◌==◌, ℕ, not, ◌+◌, ◌*◌, ◌<◌, ◌≤◌, List, Option, length, filter, IfOk, IfSome};
+ghost use Rattle.std.specs.Arc.{arc_value};
 ghost use Rattle.std.specs.List.{range_with_len};
-ghost use Rattle.mesh_base.specs.Mesh.{MeshView, IsMesh, is_vertex, is_surface, are_neighbours, surface, neighbours};
+ghost use Rattle.mesh_base.specs.Mesh.{MeshView, Corners, IsMesh, is_vertex, is_surface, are_neighbours, surface, neighbours};
+ghost use Rattle.mesh_base.specs.Edit.{cell_at};
+ghost use Rattle.topo.specs.Chunks.{chunk_of};
+ghost use Rattle.topo.specs.Shapes.{AreKeptCells, AreKeptRows};
 ghost use Rattle.topo.specs.Topology.{Topology, IsTopologyOf, IsTopology};
-ghost use Rattle.topo.specs.Tables.{IsRowAt};
 
+use crate::cells::{CellChunk, cell_chunks};
+use crate::chunks::CHUNK;
+use crate::kept::KeptChunks;
+use crate::rows::{RowChunk, row_chunks};
+use crate::surface::{SurfaceList, surface_list};
 use crate::tables::Tables;
 use mesh_base::{Cell, NoMemory};
 use std::alloc::Global;
 use std::marker::Model;
+use std::sync::Arc;
 
 /// How many points a mesh has, its cells, its surface and its neighbours, as they were when a `Topo` was frozen. It never
 /// changes, so that steps can share it.
 ///
-/// It keeps the neighbours of all points in one list. Contracts see what they see of a `Topo`.
+/// The cells and the neighbours stand in chunks of 4,096, which shapes can share with each other. Contracts see what they see
+/// of a `Topo`.
 #[derive(Drop)]
 pub struct Shape {
     points: u32,
-    cells: Vec<Option<Cell>>,
-    surface: Vec<u32>,
-    starts: Vec<usize>,
-    near: Vec<u32>,
+    count: u32,
+    cells: Vec<Arc<CellChunk>>,
+    surface: Arc<SurfaceList>,
+    rows: Vec<Arc<RowChunk>>,
 }
 
 impl Model for Shape {
+    ghost use Rattle.std.specs.Prelude.{flat_map};
+    ghost use Rattle.std.specs.Arc.{arc_value};
     ghost use Rattle.topo.specs.Topology.{Topology};
-    ghost use Rattle.topo.specs.Tables.{IsShape};
+    ghost use Rattle.topo.specs.Shapes.{IsShape};
 
     ghost Value = { Topology };
 
-    ghost view = { λ s. record { points = s.points; cells = s.cells.items } };
+    ghost view = { λ s. record { points = s.points; cells = flat_map arc_value s.cells.items } };
 
-    ghost invariant = { λ s. IsShape s.points s.cells.items s.surface.items s.starts.items s.near.items };
-}
-
-// The neighbours of all points one after the other, and where those of each begin.
-fn list_neighbours(alloc: Global, tables: &Tables) -> Result<(Vec<usize>, Vec<u32>), NoMemory>
-    ensures len { IfOk result (λ lists. length lists.0.items ≡ tables.now.points + 1) }
-    ensures rows { IfOk result (λ lists. (v : ℕ) → v < tables.now.points
-        → IsRowAt lists.0.items lists.1.items v (filter (are_neighbours tables.now.cells v) (range_with_len 0 tables.now.points))) }
-{
-    let mut starts = Vec::with_capacity(alloc, tables.points() as usize + 1)?;
-    let mut near = Vec::new(alloc);
-    starts.push(0)?;
-    for v in 0..tables.points() {
-        near.extend_from_slice(tables.neighbours(v))?;
-        starts.push(near.len())?;
-    }
-    Ok((starts, near))
+    ghost invariant = { λ s. IsShape arc_value arc_value (record { points = s.points; cells = flat_map arc_value s.cells.items }) s.count (arc_value s.surface) s.cells.items s.rows.items };
 }
 
 impl Shape {
-    /// A copy of what the topology is now.
-    pub(crate) fn of(alloc: Global, tables: &Tables) -> Result<Shape, NoMemory>
-        ensures { IfOk result (λ shape. shape ≡ tables.now) }
+    /// What the topology is now. Chunks that are kept are shared, and new ones are kept from now on.
+    pub(crate) fn of(
+        alloc: Global,
+        tables: &Tables,
+        kept: &mut KeptChunks,
+    ) -> Result<Shape, NoMemory>
+        requires cells { AreKeptCells arc_value tables.now.cells kept.old.cells.items }
+        requires rows { AreKeptRows arc_value tables.now kept.old.rows.items }
+        ensures shape { IfOk result (λ shape. shape ≡ tables.now) }
+        ensures cells { AreKeptCells arc_value tables.now.cells kept.new.cells.items }
+        ensures rows { AreKeptRows arc_value tables.now kept.new.rows.items }
     {
-        let (starts, near) = list_neighbours(alloc, tables)?;
+        let cells = cell_chunks(alloc, &mut kept.cells, tables.cells())?;
+        let rows = row_chunks(alloc, &mut kept.rows, tables)?;
+        let surface = surface_list(alloc, &mut kept.surface, tables.surface())?;
         Ok(Shape {
             points: tables.points(),
-            cells: tables.cells().to_vec(alloc)?,
-            surface: tables.surface().to_vec(alloc)?,
-            starts,
-            near,
+            count: tables.cells().len() as u32,
+            cells,
+            surface,
+            rows,
         })
     }
 
@@ -73,13 +79,41 @@ impl Shape {
         self.points
     }
 
-    /// The cells, by their numbers. An absent one is None.
-    pub fn cells(&self) -> &[Option<Cell>]
-        ensures cells { result.now ≡ self.now.cells }
+    /// How many cells there are, absent ones included.
+    pub fn cells(&self) -> u32
+        ensures cells { result ≡ length self.now.cells }
         ensures valid { (mesh : MeshView) → IsTopologyOf mesh self.now → IsMesh mesh.points mesh.cells }
         ensures topology { IsTopology self.now.points self.now.cells }
     {
-        self.cells.as_slice()
+        self.count
+    }
+
+    /// Cell i. An absent one is None.
+    pub fn cell(&self, i: u32) -> Option<Cell>
+        requires { i < length self.now.cells }
+        ensures { result ≡ cell_at self.now.cells i }
+    {
+        let i = i as usize;
+        self.cells[i / CHUNK].cells()[i % CHUNK]
+    }
+
+    /// The cells from number 4,096 k on, of which it gives at most 4,096.
+    pub fn cell_chunk(&self, k: u32) -> &[Option<Cell>]
+        requires { 4096 * k < length self.now.cells }
+        ensures { result.now ≡ chunk_of self.now.cells k }
+    {
+        self.cells[k as usize].cells()
+    }
+
+    /// A copy of all cells.
+    pub fn to_cells(&self, alloc: Global) -> Result<Vec<Option<Cell>>, NoMemory>
+        ensures { IfOk result (λ cells. cells.items ≡ self.now.cells) }
+    {
+        let mut cells = Vec::with_capacity(alloc, self.count as usize)?;
+        for chunk in &self.cells {
+            cells.extend_from_slice(chunk.cells())?;
+        }
+        Ok(cells)
     }
 
     /// The neighbours of point v, ascending: the other corners of the live cells that have it. A vertex has some, and
@@ -90,9 +124,8 @@ impl Shape {
         ensures listed { result.now ≡ filter (are_neighbours self.now.cells v) (range_with_len 0 self.now.points) }
         ensures vertex { not (length result.now == 0) ≡ is_vertex self.now.cells v }
     {
-        let start = self.starts[v as usize];
-        let end = self.starts[v as usize + 1];
-        &self.near[start..end]
+        let v = v as usize;
+        self.rows[v / CHUNK].row(v % CHUNK)
     }
 
     /// The vertices of the surface, ascending: those on a face that exactly one live cell has. Nothing is searched or
@@ -101,6 +134,6 @@ impl Shape {
         ensures mesh { (mesh : MeshView) → IsTopologyOf mesh self.now → result.now ≡ surface mesh }
         ensures listed { result.now ≡ filter (is_surface self.now.cells) (range_with_len 0 self.now.points) }
     {
-        self.surface.as_slice()
+        self.surface.list()
     }
 }

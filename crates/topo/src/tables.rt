@@ -4,6 +4,7 @@ ghost use Rattle.std.specs.List.{range_with_len};
 ghost use Rattle.mesh_base.specs.Mesh.{MeshView, corners_of, AreDifferent, AreWithin, AreAllDifferent, IsWithin, IsMesh, is_vertex, is_surface, are_neighbours, surface, neighbours};
 ghost use Rattle.mesh_base.specs.Edit.{cell_at, edited, quarters, split_cells, EditFits};
 ghost use Rattle.topo.specs.Topology.{Topology, IsTopologyOf, IsTopology, Fits};
+ghost use Rattle.topo.specs.Shapes.{touched_by};
 
 use edge_table::EdgeTable;
 use face_table::FaceTable;
@@ -155,6 +156,18 @@ impl Tables {
                     && self.has_point_room()
                     && self.cells.len() <= MOST_CELLS - 4
             }
+        }
+    }
+
+    /// The corners of the cell that the edit puts in, takes out or splits.
+    pub fn touched(&self, edit: &Edit) -> Option<Cell>
+        ensures { (mesh : MeshView) → IsTopologyOf mesh self.now → EditFits mesh edit.now → result ≡ touched_by mesh edit.now }
+    {
+        match *edit {
+            Edit::Point { .. } => None,
+            Edit::Add { corners } => Cell::new(corners),
+            Edit::Remove { cell } => self.live_cell(cell),
+            Edit::Split { cell, .. } => self.live_cell(cell),
         }
     }
 

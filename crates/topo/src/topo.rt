@@ -6,6 +6,7 @@ ghost use Rattle.mesh_base.specs.Mesh.{MeshView, AreWithin, IsMesh, is_vertex, i
 ghost use Rattle.mesh_base.specs.Edit.{edited, EditFits};
 ghost use Rattle.topo.specs.Topology.{IsTopologyOf, IsTopology, Fits};
 
+use crate::kept::{KeptChunks, forget_cells, forget_rows};
 use crate::shape::Shape;
 use crate::tables::Tables;
 use mesh_base::{Cell, CellList, Edit, NoMemory};
@@ -18,23 +19,27 @@ use std::sync::Arc;
 /// Points and cells are numbered from 0. An absent cell keeps its number. Contracts see a number and a list of cells, and
 /// speak of every mesh that has so many points and these cells.
 ///
-/// It keeps the last shape that `freeze_next` gave, until an edit comes: a kept shape is what the topology is now.
+/// It keeps the last shape that `freeze_next` gave, until an edit comes, and its chunks, until an edit changes what is in them:
+/// what is kept is what the topology is now.
 #[derive(Drop)]
 pub struct Topo {
     tables: Tables,
     last: Option<Arc<Shape>>,
+    kept: KeptChunks,
 }
 
 impl Model for Topo {
     ghost use Rattle.std.specs.Prelude.{◌≡◌, IfSome};
     ghost use Rattle.std.specs.Arc.{arc_value};
     ghost use Rattle.topo.specs.Topology.{Topology};
+    ghost use Rattle.topo.specs.Shapes.{AreKeptCells, AreKeptRows};
 
     ghost Value = { Topology };
 
     ghost view = { λ t. t.tables };
 
-    ghost invariant = { λ t. IfSome t.last (λ shape. arc_value shape ≡ t.tables) };
+    ghost invariant = { λ t. IfSome t.last (λ shape. arc_value shape ≡ t.tables)
+        × AreKeptCells arc_value t.tables.cells t.kept.cells.items × AreKeptRows arc_value t.tables t.kept.rows.items };
 }
 
 impl Topo {
@@ -50,6 +55,7 @@ impl Topo {
         Ok(Topo {
             tables: Tables::build(alloc, points, cells)?,
             last: None,
+            kept: KeptChunks::new(alloc),
         })
     }
 
@@ -96,14 +102,14 @@ impl Topo {
     pub fn freeze(&self, alloc: Global) -> Result<Arc<Shape>, NoMemory>
         ensures { IfOk result (λ shape. arc_value shape ≡ self.now) }
     {
-        let shape = Shape::of(alloc, &self.tables)?;
+        let shape = Shape::of(alloc, &self.tables, &mut KeptChunks::new(alloc))?;
         Ok(Arc::new(alloc, shape)?)
     }
 
     /// The same as `freeze` gives. After NoMemory nothing has changed.
     ///
     /// Where no edit was made since the last shape that it gave, it gives that very shape, at the cost of one count.
-    /// Otherwise it costs what `freeze` costs.
+    /// Otherwise it shares each chunk that no edit changed, at the cost of one count, and copies the others and the surface.
     pub fn freeze_next(&mut self, alloc: Global) -> Result<Arc<Shape>, NoMemory>
         ensures ok { IfOk result (λ shape. arc_value shape ≡ self.old) }
         ensures same { self.new ≡ self.old }
@@ -111,7 +117,8 @@ impl Topo {
         if let Some(shape) = &self.last {
             return Ok(shape.clone()?);
         }
-        let shape = self.freeze(alloc)?;
+        let shape = Shape::of(alloc, &self.tables, &mut self.kept)?;
+        let shape = Arc::new(alloc, shape)?;
         self.last = Some(shape.clone()?);
         Ok(shape)
     }
@@ -136,8 +143,13 @@ impl Topo {
         ensures edited { OnOk result ((mesh : MeshView) → IsTopologyOf mesh self.old → IsTopologyOf (edited mesh edit.now) self.new) }
         ensures err { OnErr result (self.new ≡ self.old) }
     {
+        let points = self.tables.points() as usize;
+        let cells = self.tables.cells().len();
+        let touched = self.tables.touched(edit);
         self.tables.edit(alloc, edit)?;
         self.last = None;
+        forget_cells(&mut self.kept.cells, edit, cells);
+        forget_rows(&mut self.kept.rows, edit, points, &touched);
         Ok(())
     }
 }

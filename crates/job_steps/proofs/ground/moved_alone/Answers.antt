@@ -5,10 +5,10 @@ use Rattle.topo.specs.Topology.{mesh_at}
 use Rattle.job_steps.proofs.PlanLaws.{moved-len, moved-stay}
 use Rattle.job_steps.proofs.ground.moved_alone.Goals as goal
 
-pub of-requires : goal.of-requires
-of-requires c =
+pub after-requires : goal.after-requires
+after-requires c =
     let mesh = mesh_at c.deref-in_default.result.now c.deref-in_default-2.result.now in
-    let len : length c.in_ok-moved-in_default.field-0 ≡ length mesh.points = ap length c.in_ok-moved-in_default.ensures ∙ moved-len mesh c.args.ground.now.kernel c.args.ground.now.step in
+    let len : length c.in_ok-moved-in_default.moved ≡ length mesh.points = ap length c.in_ok-moved-in_default.ensures ∙ moved-len mesh c.args.ground.now.kernel c.args.ground.now.step in
     let same : length c.deref-in_default.result.now ≡ length c.deref.result.now = ap length (c.deref-in_default.ensures ∙ sym c.deref.ensures) in
     omega (arith, len, same, c.len-few.ensures.few)
 

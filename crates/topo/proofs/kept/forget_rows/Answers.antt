@@ -1,0 +1,12 @@
+use Rattle.std.proofs.Common.{◌≡◌, ap, ◌∙◌, sym, subst, arith, length}
+use Rattle.std.specs.Arc.{arc_value}
+use Rattle.mesh_base.specs.Mesh.{AreWithin}
+use Rattle.mesh_base.specs.Edit.{edited}
+use Rattle.topo.specs.Shapes.{AreKeptRows, topology_of, left_rows, left_corners}
+use Rattle.topo.proofs.StayLaws.{rows-left}
+use Rattle.topo.proofs.kept.forget_rows.Goals as goal
+
+pub returns : goal.returns
+returns c = λ mesh len within fits touched kept.
+    rw (c.forget_touched.ensures, c.forget_last.ensures, sym len)
+    (rows-left arc_value mesh c.args.edit.now c.args.touched.now _ (subst (λ n. AreWithin n mesh.cells) (sym len) within) fits touched kept)
