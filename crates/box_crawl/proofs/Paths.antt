@@ -20,9 +20,6 @@ use Rattle.box_crawl.specs.Found.{IsTally, IsMore}
 use Rattle.box_crawl.proofs.Tally.{from_marked, once}
 
 module _ (mesh : MeshView) (area : Area) where
-  pub more_none : (v : ℕ) (xs : List ℕ) → IsMore mesh area v xs xs
-  more_none v xs = record { more = []; is = sym (append-nil xs); only = λ w m. absurd (omega arith) }
-
   pub more_push : (v : ℕ) (xs ys zs : List ℕ) (w : ℕ) (m : Bool) → IsMore mesh area v xs ys → are_neighbours mesh.cells v w ≡ true → w < length mesh.points
       → zs ≡ ys ++ cond (not m && is_inside area (place mesh w)) (w ∷ []) [] → IsMore mesh area v xs zs
   more_push v xs ys zs w m h n lt e = by (not m && is_inside area (place mesh w)) refl e

@@ -1,18 +1,10 @@
 -- the list of a crawl beside its marks
-use Rattle.std.proofs.Common.{◌≡◌, ℕ, zero, suc, ◌<◌, ◌≤◌, inl, inr, Bool, true, false, cond, List, [], ◌∷◌, ◌++◌, replicate, count_by, Contains, ◌↔◌, refl, sym, ap, subst, ◌∙◌, arith}
+use Rattle.std.proofs.Common.{◌≡◌, ℕ, ◌<◌, ◌≤◌, inl, inr, Bool, true, false, cond, List, [], ◌∷◌, ◌++◌, Contains, ◌↔◌, ap, subst, ◌∙◌, arith}
 use Rattle.std.proofs.lemmas.List.Elements.{Contains-append_left, Contains-push_cases, Contains-push}
-use Rattle.std.proofs.lemmas.List.Sums.{sum_by-cons}
-use Rattle.mesh_base.proofs.Ascending.{In-from_Contains, Contains-from_In}
-use Rattle.mesh_base.proofs.Once.{bit, times, times-In, In-times}
+use Rattle.mesh_base.proofs.Ascending.{Contains-from_In}
+use Rattle.mesh_base.proofs.Once.{bit, times, times-In}
 use Rattle.box_crawl.specs.Marked.{is_marked}
 use Rattle.box_crawl.specs.Found.{IsTally}
-
-by_mark : (b : Bool) (n : ℕ) → n ≡ cond b 1 0 → 0 < n → b ≡ true
-by_mark true n e h = refl
-by_mark false n e h = absurd (omega arith)
-
-pub marked_from : (found : List ℕ) (marks : List Bool) (v : ℕ) → IsTally found marks → Contains found v → is_marked marks v ≡ true
-marked_from found marks v t m = by_mark (is_marked marks v) (times found v) (t.each v) (In-times found v (In-from_Contains found v m))
 
 pub from_marked : (found : List ℕ) (marks : List Bool) (v : ℕ) → IsTally found marks → is_marked marks v ≡ true → Contains found v
 from_marked found marks v t m = let e = t.each v ∙ ap bit m in Contains-from_In found v (times-In found v (omega arith))
@@ -23,18 +15,6 @@ once found marks v t = by (is_marked marks v) (t.each v)
     by : (b : Bool) → times found v ≡ cond b 1 0 → times found v ≤ 1
     by true e = omega arith
     by false e = omega arith
-
-pub tally-none : (n : ℕ) → IsTally [] (replicate n false)
-tally-none n = record { each = λ v. sym (ap bit (none n v)); all = sym (zeros n) }
-  where
-    none : (n v : ℕ) → is_marked (replicate n false) v ≡ false
-    none zero v = refl
-    none (suc n) zero = refl
-    none (suc n) (suc v) = none n v
-
-    zeros : (n : ℕ) → count_by (λ b. b) (replicate n false) ≡ 0
-    zeros zero = refl
-    zeros (suc n) = sum_by-cons bit false (replicate n false) ∙ (let r = zeros n in omega arith)
 
 -- the same members before and after one more
 push_part : (xs ys : List ℕ) (v w : ℕ) → (Contains xs w → Contains ys w) → Contains (xs ++ v ∷ []) w → Contains (ys ++ v ∷ []) w

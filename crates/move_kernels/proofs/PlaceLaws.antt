@@ -1,9 +1,8 @@
 -- lemmas on places and on rounded quotients
-use Rattle.std.proofs.Common.{◌≡◌, ℕ, zero, suc, ◌+◌, ◌*◌, ◌/◌, ◌^◌, ◌<◌, ◌≤◌, ℤ, pos, negsuc, neg_ℤ, ◌+ℤ◌, ◌-ℤ◌, ◌*ℤ◌, ◌<ℤ◌, ◌≤ℤ◌, w32, w64, List, [], ◌∷◌, ◌++◌, map, get_or, length, filter, fold, All, Bool, true, false, cond, subst, Option, Some, None, refl, sym, ap, ◌∙◌, arith, SomeIff}
-use Rattle.std.proofs.lemmas.List.{map-append, length-map}
+use Rattle.std.proofs.Common.{◌≡◌, ℕ, suc, ◌+◌, ◌*◌, ◌/◌, ◌^◌, ◌<◌, ◌≤◌, ℤ, pos, negsuc, neg_ℤ, ◌+ℤ◌, ◌-ℤ◌, ◌*ℤ◌, ◌<ℤ◌, ◌≤ℤ◌, w32, w64, List, [], ◌∷◌, ◌++◌, map, get_or, length, filter, fold, All, Bool, true, false, cond, Option, Some, None, sym, ap, ◌∙◌, arith, SomeIff}
+use Rattle.std.proofs.lemmas.List.{map-append}
 use Rattle.std.proofs.lemmas.List.FromFn.{get_or-range_with_len, length-range_with_len}
 use Rattle.std.proofs.lemmas.List.Elements.{All-filter}
-use Rattle.std.proofs.lemmas.List.Sums.{length-filter}
 use Rattle.std.proofs.lemmas.Int.{ints, unsigned_abs-mul, to_z-of_z}
 use Rattle.std.proofs.Math.Nat.{div-le_self, mul-le-mul_left, mul-le-mul_right}
 use Rattle.std.specs.Int.RustNames.{unsigned_abs, FitsSigned}
@@ -11,14 +10,11 @@ use Rattle.std.specs.Int.{cast_signed, cast_unsigned}
 use Rattle.std.specs.List.{range_with_len}
 use Rattle.mesh_base.proofs.CellLists.{range-more}
 use Rattle.mesh_base.specs.Place.{Place, IsCoordinate}
-use Rattle.mesh_base.specs.Kernel.{floor_of, held_place, plus, mean}
+use Rattle.mesh_base.specs.Kernel.{floor_of, plus, mean}
 
 -- places with the same coordinates
 pub same_place : (p q : Place) → p.0 ≡ q.0 → p.1 ≡ q.1 → p.2 ≡ q.2 → p ≡ q
 same_place p q x y z = grind arith
-
-pub held_same : (r p q : Place) → r ≡ held_place p → p.0 ≡ q.0 → p.1 ≡ q.1 → p.2 ≡ q.2 → r ≡ held_place q
-held_same r p q e x y z = e ∙ ap held_place (same_place p q x y z)
 
 -- what an option holds
 pub some_is : (o : Option Place) (P : Type 0) (p r : Place) → SomeIff o P p → o ≡ Some r → r ≡ p

@@ -27,9 +27,6 @@ less_before (x ∷ xs) (suc i) u a lt (inl e) = let p = a.0 (get_or xs i 0) (In-
 less_before (x ∷ xs) (suc i) u a lt (inr m) = less_before xs i u a.1 (omega arith) m
 
 module _ (mesh : MeshView) (area : Area) where
-  pub best_none : IsBest mesh area [] None
-  best_none = record { vertex = refl; distance = tt }
-
   best_push : (xs : List ℕ) (best : Option Near) (near : Near) → IsBest mesh area xs best → ((u : ℕ) → In xs u → u < near.vertex) → near.distance ≡ distance mesh area near.vertex
       → IsBest mesh area (xs ++ near.vertex ∷ []) (Some (better best near))
   best_push xs None near h late e = record { vertex = ap (λ o. Some (after mesh area o near.vertex)) h.vertex ∙ sym (nearest_push mesh area xs near.vertex); distance = e }

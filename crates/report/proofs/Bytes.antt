@@ -1,6 +1,6 @@
 -- The bytes of printed numbers and of the lines of a report.
 use Rattle.std.proofs.Common.{◌≡◌, ℕ, zero, suc, ◌+◌, ◌<◌, Bool, true, false, cond, not, List, [], ◌∷◌, ◌++◌, refl, ap, ◌∙◌, arith}
-use Rattle.std.specs.Prelude.{◌==◌, ◌&&◌, ◌/◌, ◌%◌, nat_le, flat_map, All}
+use Rattle.std.specs.Prelude.{◌==◌, ◌&&◌, ◌/◌, ◌%◌, flat_map, All}
 use Rattle.std.specs.List.{list_all}
 use Rattle.std.specs.Fmt.{decimal, digits, digits_onto, digit_glyph}
 use Rattle.std.proofs.lemmas.Bool.{lt-ltb, and_from, and_parts}
@@ -9,9 +9,6 @@ use Rattle.std.proofs.lemmas.List.Folds.{list_all-append}
 use Rattle.std.proofs.lemmas.List.Elements.{All-cons}
 use Rattle.oct_text.specs.Printing.{list_spelling}
 use Rattle.oct_text.proofs.PrintingLemmas.{spaced, list_spelling-cons}
-
-abbrev pub is_numeral_byte : ℕ → Bool
-is_numeral_byte b = nat_le 48 b && nat_le b 57
 
 pub both-all : (p : ℕ → Bool) (xs ys : List ℕ) → list_all p xs ≡ true → list_all p ys ≡ true → list_all p (xs ++ ys) ≡ true
 both-all p xs ys a b = list_all-append p xs ys ∙ and_from (list_all p xs) (list_all p ys) a b

@@ -108,22 +108,11 @@ module _ (job : JobView) (h : List Event) (st : State) (latest : SharesView) (ro
       what.0 ∙ (ap (λ l. l ++ cond (is_out st.sessions st.newest) (latest ∷ []) []) kept.older_is ∙ (ap (λ r. older_rows job st ++ cond (is_out st.sessions st.newest) (r ∷ []) []) kept.latest_is ∙ (sym (rows_publish job st) ∙ ap (λ j. older_rows job (effect st (Publish j))) (sym now.0)))) in
       kept_more (Publish k) latest' rows' answers kept can (let count : latest'.count ≡ length job.sessions + 1 = ap (λ (v : SharesView). v.count) l in row_is latest' (step_of job k) ((length job.sessions + 1) - outs k st.sessions) (ap (λ (v : SharesView). v.step) l) (omega arith)) rows_are (sym (append-nil answers))
 
-  pub publish_freed : (k : ℕ) (rows' : List SharesView) (handed : Option SharesView) → IsKept job h st latest rows answers er ar rr → (latest.count ≡ length job.sessions + 1 → (rows' ≡ rows) × (handed ≡ Some latest)) → (latest.count < length job.sessions + 1 → (rows' ≡ rows ++ latest ∷ []) × (handed ≡ None)) → option_to_list handed ≡ map (all_shares job) (freed_by (after job h) (Publish k))
-  publish_freed k rows' handed kept full partly = freed_is (is_out st.sessions st.newest) refl kept (former (is_out st.sessions st.newest) refl kept rows' handed full partly).1 ∙ ap (λ s. map (all_shares job) (freed_by s (Publish k))) kept.state_is
-    where
-      freed_is : (b : Bool) → is_out st.sessions st.newest ≡ b → IsKept job h st latest rows answers er ar rr → option_to_list handed ≡ cond b [] (latest ∷ []) → option_to_list handed ≡ map (all_shares job) (cond b [] (st.newest ∷ []))
-      freed_is true e kept f = f
-      freed_is false e kept f = let none : outs st.newest st.sessions ≤ 0 = ltb-false 0 (outs st.newest st.sessions) e in let z : outs st.newest st.sessions ≡ 0 = omega arith in
-          let count = latest_count kept in f ∙ ap (λ r. r ∷ []) (row_is latest (step_of job st.newest) (length job.sessions + 1) (latest_step kept) (omega arith))
-
   -- the step that a session has out
   out_fits : (s k : ℕ) (a : Bool) → IsKept job h st latest rows answers er ar rr → CanHappen job (after job h) (Unpin s k a) → (s < length st.sessions) × ((session_of st s).out ≡ Some k) × (k ≤ st.newest) × (0 < outs k st.sessions) × ((session_of st s).done < length (turns_of job s))
   out_fits s k a kept can =
       let now = can_now (Unpin s k a) kept can in let sd = sound_now kept in let lt : s < length st.sessions = subst (λ n. s < n) (sym sd.even) now.0 in
       (lt, now.1, (sd.each s).out_below k now.1, out-counted st s k lt now.1, ((sd.each s).out_goes k now.1).0)
-
-  before_rows : ℕ → List SharesView
-  before_rows k = rows_between job st.sessions 0 k
 
   rows_cut : (s k : ℕ) (a : Bool) → IsKept job h st latest rows answers er ar rr → CanHappen job (after job h) (Unpin s k a) → k < st.newest → rows ≡ rows_between job st.sessions 0 k ++ (row_of job st.sessions k ∷ rows_between job st.sessions (k + 1) (st.newest - k - 1))
   rows_cut s k a kept can below =
@@ -243,9 +232,6 @@ module _ (job : JobView) (h : List Event) (st : State) (latest : SharesView) (ro
 
   pub session_there : (s : ℕ) → IsKept job h st latest rows answers er ar rr → s < length job.sessions → s < length st.sessions
   session_there s kept lt = subst (λ n. s < n) (sym (sound_now kept).even) lt
-
-  pub done_few : (s : ℕ) → IsKept job h st latest rows answers er ar rr → (session_of st s).done ≤ length (turns_of job s)
-  done_few s kept = ((sound_now kept).each s).done_fits
 
   pub rows_fit_now : IsKept job h st latest rows answers er ar rr → length rows ≤ 8
   rows_fit_now kept = let few = rows_few job st in let even = (sound_now kept).even in let len : length rows ≡ length (older_rows job st) = ap length kept.older_is in let most = kept.job_is.few_sessions in omega arith

@@ -11,7 +11,7 @@ use Rattle.run_script.specs.declared.job.SessionTurn.{SessionTurn}
 use Rattle.step_registry.specs.declared.event.Event.{Event}
 use Rattle.step_registry.specs.declared.event.Event.TheVariants.{Publish, Pin, Unpin, Close}
 use Rattle.step_registry.specs.declared.event.SessionState.{SessionState}
-use Rattle.step_registry.specs.Core.{State, fresh, first, session_of, with_session, pinned, unpinned, effect, CanHappen, after_from, LegalFrom, after, IsLegal, freed_by, freed_from, first_query, answer_run, answers_by, answers_from, answers_of, turn_at, no_turn}
+use Rattle.step_registry.specs.Core.{State, fresh, first, session_of, with_session, pinned, unpinned, effect, CanHappen, after_from, LegalFrom, after, IsLegal, first_query, answer_run, answers_by, answers_from, answers_of, turn_at, no_turn}
 
 -- one history after another
 pub after-append : (st : State) (g h : List Event) → after_from st (g ++ h) ≡ after_from (after_from st g) h
@@ -32,10 +32,6 @@ legal-append job st (e ∷ es) h l m = (l.0, legal-append job (effect st e) es h
 
 pub legal_more : (job : JobView) (h : List Event) (e : Event) → IsLegal job h → CanHappen job (after job h) e → IsLegal job (h ++ e ∷ [])
 legal_more job h e l can = legal-append job (first job) h (e ∷ []) l (can, tt)
-
-pub freed-append : (st : State) (g h : List Event) → freed_from st (g ++ h) ≡ freed_from st g ++ freed_from (after_from st g) h
-freed-append st [] h = refl
-freed-append st (e ∷ es) h = ap (λ l. freed_by st e ++ l) (freed-append (effect st e) es h) ∙ sym (append_assoc (freed_by st e) (freed_from (effect st e) es) (freed_from (after_from (effect st e) es) h))
 
 pub answers-append : (job : JobView) (st : State) (g h : List Event) → answers_from job st (g ++ h) ≡ answers_from job st g ++ answers_from job (after_from st g) h
 answers-append job st [] h = refl
