@@ -1,0 +1,4 @@
+pub mod RowLaws
+pub mod Placing
+pub mod Runs
+pub mod Totals
