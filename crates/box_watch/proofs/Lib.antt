@@ -1,0 +1,12 @@
+pub mod Members
+pub mod Nexts
+pub mod Steps
+pub mod Unions
+pub mod Places
+pub mod Lasts
+pub mod Follows
+pub mod InOrder
+pub mod Chains
+pub mod Printed
+pub mod Answered
+pub mod Since
