@@ -12,22 +12,24 @@ use Rattle.script_format.specs.ScriptText.{script_text}
 use Rattle.script_format.specs.Printed.{script_spelling}
 use Rattle.run_script.specs.Jobs.{JobView, steps, step_at, checked}
 use Rattle.octopus.specs.declared.words.Command.{Command}
-use Rattle.octopus.specs.declared.words.Command.TheVariants.{Scan, Surface, Gen, Step, Upgrade, Box}
+use Rattle.cell_box.specs.Cells.{cells_by}
+use Rattle.octopus.specs.declared.words.Command.TheVariants.{Scan, Surface, Gen, Step, Upgrade, Box, Cells}
 use Rattle.octopus.specs.declared.refusal.Refusal.{Refusal}
 use Rattle.octopus.specs.declared.refusal.Refusal.TheVariants as refusals
 use Rattle.octopus.specs.Block.{block}
 use Rattle.octopus.specs.declared.words.Played.{Played}
-use Rattle.octopus.specs.declared.words.Played.TheVariants.{Run, Demo}
+use Rattle.octopus.specs.declared.words.Played.TheVariants.{Run, Demo, Watch}
 use Rattle.octopus.specs.Words.{command_of, played_of}
 use Rattle.octopus.specs.Demo.{demo_text}
 use Rattle.octopus.specs.Lines.{list_text, answer_text}
 
--- a file that is not there, a refusal, a text, or the report of a job that is played
+-- a file that is not there, a refusal, a text, or the report or the watches of a job that is played
 pub data Due : Type 0 where
   Missing : Due
   Refuse : Refusal → Due
   Text : List ℕ → Due
   Play : JobView → Due
+  Watched : JobView → Due
 
 -- the most bytes of a mesh file
 abbrev pub mesh_limit : ℕ
@@ -76,6 +78,7 @@ due_of (Some (Gen side)) files = Text (mesh_spelling (block side))
 due_of (Some (Step name script k)) files = with_job (files name) (files script) (step_due k)
 due_of (Some (Upgrade name)) files = with_script (files name) (λ script. Text (script_spelling (upgraded script)))
 due_of (Some (Box name area)) files = with_mesh (files name) (λ mesh. Text (answer_text (route mesh area) (answer mesh area)))
+due_of (Some (Cells name area how)) files = with_mesh (files name) (λ mesh. Text (answer_text (route mesh area) (cells_by how mesh (answer mesh area))))
 
 -- what is due for these words and these files
 unfoldable pub due : List (List ℕ) → Files → Due
@@ -89,10 +92,11 @@ due_of_words (Some _) = None
 
 -- ---- with threads
 
--- what is due for what is played: the report of the job, or the summary of a demo
+-- what is due for what is played: the report or the watches of the job, or the summary of a demo
 abbrev pub due_of_played : Played (List ℕ) → Files → Due
 due_of_played (Run mesh script) files = with_job (files mesh) (files script) Play
 due_of_played (Demo side seed) files = Text (demo_text side seed)
+due_of_played (Watch mesh script) files = with_job (files mesh) (files script) Watched
 
 abbrev pub due_played : Option (Played (List ℕ)) → List (List ℕ) → Files → Due
 due_played None words files = due words files
@@ -106,6 +110,7 @@ due_with_threads words files = due_played (played_of words) words files
 abbrev pub due_of_played_words : Played (List ℕ) → Option Due
 due_of_played_words (Run mesh script) = None
 due_of_played_words (Demo side seed) = Some (Text (demo_text side seed))
+due_of_played_words (Watch mesh script) = None
 
 abbrev pub due_played_at_once : Option (Played (List ℕ)) → List (List ℕ) → Option Due
 due_played_at_once None words = due_of_words (command_of words)

@@ -7,4 +7,5 @@ pub mod Written
 pub mod Reading
 pub mod Outcomes
 pub mod Codes
+pub mod Failures
 pub mod Block

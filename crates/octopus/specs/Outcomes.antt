@@ -11,6 +11,7 @@ use Rattle.octopus.specs.declared.status.Status.TheVariants.{Done, Usage, Memory
 use Rattle.octopus.specs.declared.refusal.Refusal.{Refusal}
 use Rattle.octopus.specs.Refusals.{status_of_refusal}
 use Rattle.octopus.specs.Due.{Due, Refuse}
+use Rattle.octopus.specs.Failures.{RisesOnce, EndsAs}
 use Rattle.octopus.specs.Written.{settled, Spells, IsBadText}
 
 -- the status that a result leads to, where its text or its line can be written
@@ -42,12 +43,14 @@ Loads due_with (Err early.ReadFault) = Unit {0}
 Loads due_with (Err (early.Refused why)) = (go : _ → Due) → due_with go ≡ Refuse why
 
 -- What reads from a folder owes: `told` holds of its files, where they are told; a failed read comes only where the folder's
--- faults rose; and a file with a fault was read to its end all the same.
+-- faults rose, which they do once at most, and for nothing else; and a file with a fault was read to its end all the same.
 pub record Reads {S A : Type 0} (files : S → Option Files) (rest : S → Option (List ℕ)) (faults : S → ℕ) (old new : S) (result : Result A Early) (says : Files → Type 0) : Type 0 where
   pub told : IfSome (files old) says
   pub same : files new ≡ files old
   pub later : faults old ≤ faults new
   pub cause : status_of result ≡ ReadFault → Rose (faults old) (faults new)
+  pub once : RisesOnce (faults old) (faults new)
+  pub ends : EndsAs ReadFault (status_of result) (faults old) (faults new)
   pub read_whole : IsBadText (status_of result) → IsAtEnd (rest new)
 
 -- What a loader owes, where `due_with` says what is due for the files where `go` says it of the value: a file that was loaded was

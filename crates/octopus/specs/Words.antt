@@ -5,6 +5,8 @@ use Rattle.std.specs.Result.{result_ok}
 use Rattle.std.specs.Str.{bytes_eq}
 use Rattle.oct_text.specs.Numbers.{signed_of, count_of}
 use Rattle.mesh_base.specs.Place.{Place, Area}
+use Rattle.cell_box.specs.declared.how.How.{How}
+use Rattle.cell_box.specs.declared.how.How.TheVariants.{Whole, Touching}
 use Rattle.octopus.specs.declared.words.Command.{Command}
 use Rattle.octopus.specs.declared.words.Command.TheVariants as commands
 use Rattle.octopus.specs.declared.words.Played.{Played}
@@ -39,6 +41,25 @@ area_from None hi = None
 abbrev pub query_of : (List ℕ → Area → Command (List ℕ)) → List (List ℕ) → Option (Command (List ℕ))
 query_of make (mesh ∷ x0 ∷ y0 ∷ z0 ∷ x1 ∷ y1 ∷ z1 ∷ []) = option_map (make mesh) (area_from (corner_of x0 y0 z0) (corner_of x1 y1 z1))
 query_of make _ = None
+
+-- which cells a word asks for: those whole in the answer, or those that it touches
+unfoldable pub how_of : List ℕ → Option How
+how_of word = if bytes_eq word (codes "all") then Some Whole else if bytes_eq word (codes "some") then Some Touching else None
+
+abbrev pub cells_from : List ℕ → Option Area → Option How → Option (Command (List ℕ))
+cells_from mesh (Some area) (Some how) = Some (commands.Cells mesh area how)
+cells_from mesh (Some area) None = None
+cells_from mesh None how = None
+
+-- the words behind the mesh of `cells`: x0 y0 z0 x1 y1 z1, and `all` or `some`
+abbrev pub cells_on : List ℕ → List (List ℕ) → Option (Command (List ℕ))
+cells_on mesh (x0 ∷ y0 ∷ z0 ∷ x1 ∷ y1 ∷ z1 ∷ how ∷ []) = cells_from mesh (area_from (corner_of x0 y0 z0) (corner_of x1 y1 z1)) (how_of how)
+cells_on mesh _ = None
+
+-- the words behind `cells`: MESH, and those
+abbrev pub cells_of : List (List ℕ) → Option (Command (List ℕ))
+cells_of [] = None
+cells_of (mesh ∷ rest) = cells_on mesh rest
 
 -- the word behind `surface`: MESH
 abbrev pub surface_of : List (List ℕ) → Option (Command (List ℕ))
@@ -81,6 +102,7 @@ named name rest =
     else if bytes_eq name (codes "step") then step_of rest
     else if bytes_eq name (codes "upgrade") then upgrade_of rest
     else if bytes_eq name (codes "box") then query_of commands.Box rest
+    else if bytes_eq name (codes "cells") then cells_of rest
     else None
 
 -- the command of the words, if they have a form
@@ -96,6 +118,7 @@ named_as f (commands.Gen side) = commands.Gen side
 named_as f (commands.Step mesh script step) = commands.Step (f mesh) (f script) step
 named_as f (commands.Upgrade script) = commands.Upgrade (f script)
 named_as f (commands.Box mesh area) = commands.Box (f mesh) area
+named_as f (commands.Cells mesh area how) = commands.Cells (f mesh) area how
 
 -- ---- the commands that play a job
 
@@ -121,10 +144,16 @@ abbrev pub demo_of : List (List ℕ) → Option (Played (List ℕ))
 demo_of (n ∷ seed ∷ []) = demo_from (side_of n most_demo_side) (result_ok (count_of seed most_seed))
 demo_of _ = None
 
+-- the words behind `watch`: MESH SCRIPT
+abbrev pub watch_of : List (List ℕ) → Option (Played (List ℕ))
+watch_of (mesh ∷ script ∷ []) = Some (played.Watch mesh script)
+watch_of _ = None
+
 abbrev pub played_named : List ℕ → List (List ℕ) → Option (Played (List ℕ))
 played_named name rest =
     if bytes_eq name (codes "run") then run_of rest
     else if bytes_eq name (codes "demo") then demo_of rest
+    else if bytes_eq name (codes "watch") then watch_of rest
     else None
 
 -- what the words ask to be played, if they do
@@ -136,3 +165,4 @@ played_of (name ∷ rest) = played_named name rest
 abbrev pub played_as : {M N : Type 0} → (M → N) → Played M → Played N
 played_as f (played.Run mesh script) = played.Run (f mesh) (f script)
 played_as f (played.Demo side seed) = played.Demo side seed
+played_as f (played.Watch mesh script) = played.Watch (f mesh) (f script)

@@ -6,7 +6,8 @@ use Rattle.octopus.specs.declared.status.Status.TheVariants.{Done, Usage, Memory
 use Rattle.octopus.specs.Refusals.{status_of_refusal, refusal_line}
 use Rattle.run_script.specs.Jobs.{JobView}
 use Rattle.report.specs.Headline.{Reports}
-use Rattle.octopus.specs.Due.{Due, Missing, Refuse, Text, Play}
+use Rattle.box_watch.specs.WatchText.{Watches}
+use Rattle.octopus.specs.Due.{Due, Missing, Refuse, Text, Play, Watched}
 
 -- the status that goes with what is due, where the files are there
 abbrev pub settled : Due → Option Status
@@ -14,6 +15,7 @@ settled Missing = None
 settled (Refuse why) = Some (status_of_refusal why)
 settled (Text text) = Some Done
 settled (Play job) = Some Done
+settled (Watched job) = Some Done
 
 -- x is the text that is due
 abbrev pub Spells : Due → List ℕ → Type 0
@@ -21,6 +23,7 @@ Spells Missing x = ⊥
 Spells (Refuse why) x = x ≡ refusal_line why
 Spells (Text text) x = x ≡ text
 Spells (Play job) x = Reports job x
+Spells (Watched job) x = Watches job x
 
 -- the whole of a text that is due was added
 pub record Ends (due : Due) (old new : Option (List ℕ)) : Type 0 where
@@ -61,4 +64,10 @@ IsBadText _ = ⊥
 pub record WritesReport (job : JobView) (old new : Option (List ℕ)) : Type 0 where
   pub text : List ℕ
   pub tells : Reports job text
+  pub added : Appends old new text
+
+-- The bytes added are the watches of the history that their journal lines print, and all that `Watches` says is true of it.
+pub record WritesWatches (job : JobView) (old new : Option (List ℕ)) : Type 0 where
+  pub text : List ℕ
+  pub tells : Watches job text
   pub added : Appends old new text

@@ -5,6 +5,7 @@ ghost use Rattle.oct_edge.specs.Causes.{Rose};
 ghost use Rattle.octopus.specs.declared.status.Status.TheVariants.{ReadFault, TooLong};
 ghost use Rattle.octopus.specs.Refusals.{status_of_refusal};
 ghost use Rattle.octopus.specs.Reading.{Feeds, HasTaken, HasFed, Holds, IsTaken};
+ghost use Rattle.octopus.specs.Failures.{RisesOnce, EndsAs};
 ghost use Rattle.octopus.specs.Outcomes.{status_of, IfRefused, Reads};
 
 use crate::outcome::Early;
@@ -44,6 +45,8 @@ fn feed_piece<F: Folder, I: Intake>(
     ensures files { F.files folder.new ≡ F.files folder.old }
     ensures later { F.faults folder.old ≤ F.faults folder.new }
     ensures cause { status_of result ≡ ReadFault → Rose (F.faults folder.old) (F.faults folder.new) }
+    ensures once { RisesOnce (F.faults folder.old) (F.faults folder.new) }
+    ensures ends { EndsAs ReadFault (status_of result) (F.faults folder.old) (F.faults folder.new) }
     ensures accepts { IfRefused result (λ _. ⊥) }
 {
     let count = folder.read(buf)?;
@@ -67,6 +70,8 @@ fn feed_file<F: Folder, I: Intake>(
     ensures files { F.files folder.new ≡ F.files folder.old }
     ensures later { F.faults folder.old ≤ F.faults folder.new }
     ensures cause { status_of result ≡ ReadFault → Rose (F.faults folder.old) (F.faults folder.new) }
+    ensures once { RisesOnce (F.faults folder.old) (F.faults folder.new) }
+    ensures ends { EndsAs ReadFault (status_of result) (F.faults folder.old) (F.faults folder.new) }
     ensures accepts { IfRefused result (λ _. ⊥) }
 {
     let mut taken: u64 = 0;

@@ -1,6 +1,10 @@
 //! Answers questions about a mesh file.
 #![tactic(auto)]
 
+ghost use Rattle.std.specs.Prelude.{◌≡◌};
+ghost use Rattle.std.specs.Process.{exit_status};
+ghost use Rattle.octopus.specs.Codes.{code_of};
+
 mod block;
 mod commands;
 mod deliver;
@@ -8,6 +12,7 @@ mod demo_job;
 mod files;
 mod intake;
 mod lines;
+mod one_step;
 mod outcome;
 mod plain;
 mod refusal;
@@ -40,6 +45,13 @@ fn without_words(rt: &HostRuntime, why: io::ErrorKind) -> Status {
     plain(rt.alloc(), &[], &mut folder, &mut StdSink::new(rt))
 }
 
+// How the process ends.
+fn exit_of(status: Status) -> ExitCode
+    ensures { exit_status result ≡ code_of status }
+{
+    ExitCode::from(status.code())
+}
+
 fn main(rt: HostRuntime) -> ExitCode {
     let status = match words_of(&rt) {
         Ok(words) => {
@@ -55,7 +67,7 @@ fn main(rt: HostRuntime) -> ExitCode {
         }
         Err(error) => without_words(&rt, error.kind()),
     };
-    ExitCode::from(status.code())
+    exit_of(status)
 }
 
 #[cfg(test)]

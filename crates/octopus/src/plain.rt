@@ -5,10 +5,12 @@ ghost use Rattle.std.specs.Io.KnownBytes.{Keeps, IsAtEnd};
 ghost use Rattle.oct_edge.specs.Causes.{Rose};
 ghost use Rattle.octopus.specs.Words.{command_of};
 ghost use Rattle.octopus.specs.Due.{due, due_of_words};
+ghost use Rattle.octopus.specs.Failures.{RisesOnce, EndsAs, WritesNone};
 ghost use Rattle.octopus.specs.Written.{Gives, IsBadText, settled};
 ghost use Rattle.octopus.specs.Outcomes.{Reads, Settles, status_of};
 
 use crate::commands::box_answer::run_box;
+use crate::commands::cells::run_cells;
 use crate::commands::gen_block::block_text;
 use crate::commands::scan::run_scan;
 use crate::commands::step::run_step;
@@ -41,6 +43,7 @@ fn prepare<F: Folder>(alloc: Global, words: &[String], folder: &mut F) -> Result
         Command::Step { mesh, script, step } => run_step(alloc, mesh, script, step, folder),
         Command::Upgrade { script } => run_upgrade(alloc, script, folder),
         Command::Box { mesh, area } => run_box(alloc, mesh, &area, folder),
+        Command::Cells { mesh, area, how } => run_cells(alloc, mesh, &area, how, folder),
     }
 }
 
@@ -51,7 +54,7 @@ fn prepare<F: Folder>(alloc: Global, words: &[String], folder: &mut F) -> Result
 /// A script is looked for only once the mesh was accepted.
 ///
 /// Its time is that of reading the files once and of the work: for `step` that of each step up to the one that is asked
-/// for, for `box` that of the mesh's tables and of one answer. It holds the mesh with its tables, the bytes of a script
+/// for, for `box` and `cells` that of the mesh's tables and of one answer. It holds the mesh with its tables, the bytes of a script
 /// while they are read, and the text written.
 pub fn plain<F: Folder, K: Sink>(
     alloc: Global,
@@ -68,6 +71,15 @@ pub fn plain<F: Folder, K: Sink>(
     ensures usage { result ≡ Status.Usage → command_of (map string_bytes words.now) ≡ None }
     ensures read_fault { result ≡ Status.ReadFault → Rose (F.faults folder.old) (F.faults folder.new) × Keeps (K.written sink.old) (K.written sink.new) }
     ensures write_fault { result ≡ Status.WriteFault → Rose (K.faults sink.old) (K.faults sink.new) }
+
+    // A call that failed is the last one that fails, and is told.
+    ensures read_once { RisesOnce (F.faults folder.old) (F.faults folder.new) }
+    ensures read_ends { EndsAs Status.ReadFault result (F.faults folder.old) (F.faults folder.new) }
+    ensures write_once { RisesOnce (K.faults sink.old) (K.faults sink.new) }
+    ensures write_ends { EndsAs Status.WriteFault result (K.faults sink.old) (K.faults sink.new) }
+
+    // Memory is refused before the first byte is written.
+    ensures memory { WritesNone result (K.written sink.old) (K.written sink.new) }
 
     // A file with a fault is read to its end all the same.
     ensures read_whole { IsBadText result → IsAtEnd (F.rest folder.new) }

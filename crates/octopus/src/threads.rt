@@ -3,14 +3,16 @@ ghost use Rattle.std.specs.Prelude.{◌≡◌, ◌≢◌, ◌⊎◌, map, IfSome
 ghost use Rattle.std.specs.String.{string_bytes};
 ghost use Rattle.std.specs.Io.KnownBytes.{Keeps, IsAtEnd};
 ghost use Rattle.oct_edge.specs.Causes.{Rose};
+ghost use Rattle.octopus.specs.Failures.{RisesOnce, EndsAs, WritesNone};
 ghost use Rattle.run_script.specs.Jobs.{JobView};
 ghost use Rattle.octopus.specs.Words.{command_of, played_of, played_as};
-ghost use Rattle.octopus.specs.Due.{Play, due_of_played, due_with_threads, due_of_played_words, due_at_once};
-ghost use Rattle.octopus.specs.Written.{Gives, WritesReport, IsBadText, settled};
+ghost use Rattle.octopus.specs.Due.{Play, Watched, due_of_played, due_with_threads, due_of_played_words, due_at_once};
+ghost use Rattle.octopus.specs.Written.{Gives, WritesReport, WritesWatches, IsBadText, settled};
 ghost use Rattle.octopus.specs.Outcomes.{Owes, Settles, status_of};
 
 use crate::commands::demo::run_demo;
 use crate::commands::run::play_script;
+use crate::commands::watch::watch_script;
 use crate::deliver::tell;
 use crate::outcome::Early;
 use crate::plain::plain;
@@ -36,10 +38,11 @@ fn prepare_played<R: Threads + Wait + Sync, F: Folder, G: Gate>(
     match played {
         Played::Run { mesh, script } => play_script(rt, alloc, mesh, script, folder, gate),
         Played::Demo { side, seed } => Ok(run_demo(rt, alloc, side, seed, gate)?),
+        Played::Watch { mesh, script } => watch_script(rt, alloc, mesh, script, folder, gate),
     }
 }
 
-// The same as `octopus`, but for its last clause.
+// The same as `octopus`, but for its last two clauses.
 #[tactic(auto, unfolding(crate::specs::Due::due_with_threads))]
 fn do_all<R: Threads + Wait + Sync, F: Folder, K: Sink, G: Gate>(
     rt: &R,
@@ -54,6 +57,11 @@ fn do_all<R: Threads + Wait + Sync, F: Folder, K: Sink, G: Gate>(
     ensures usage { result ≡ Status.Usage → (played_of (map string_bytes words.now) ≡ None) × (command_of (map string_bytes words.now) ≡ None) }
     ensures read_fault { result ≡ Status.ReadFault → Rose (F.faults folder.old) (F.faults folder.new) × Keeps (K.written sink.old) (K.written sink.new) }
     ensures write_fault { result ≡ Status.WriteFault → Rose (K.faults sink.old) (K.faults sink.new) }
+    ensures read_once { RisesOnce (F.faults folder.old) (F.faults folder.new) }
+    ensures read_ends { EndsAs Status.ReadFault result (F.faults folder.old) (F.faults folder.new) }
+    ensures write_once { RisesOnce (K.faults sink.old) (K.faults sink.new) }
+    ensures write_ends { EndsAs Status.WriteFault result (K.faults sink.old) (K.faults sink.new) }
+    ensures memory { WritesNone result (K.written sink.old) (K.written sink.new) }
     ensures read_whole { IsBadText result → IsAtEnd (F.rest folder.new) }
     ensures complete { IfSome (F.files folder.old) (λ files. ¬ (Rose (F.faults folder.old) (F.faults folder.new)) → ¬ (Rose (K.faults sink.old) (K.faults sink.new)) → (result ≡ Status.Memory) ⊎ (settled (due_with_threads (map string_bytes words.now) files) ≡ Some result)) }
 {
@@ -64,16 +72,17 @@ fn do_all<R: Threads + Wait + Sync, F: Folder, K: Sink, G: Gate>(
     tell(alloc, outcome, sink)
 }
 
-/// Does what the words say: `run MESH SCRIPT` and `demo N SEED` by threads, and all other commands as `plain` does. Files are
-/// read from `folder`, and what is due is written to `sink`: the text whole, or the one line of the refusal.
+/// Does what the words say: `run MESH SCRIPT`, `watch MESH SCRIPT` and `demo N SEED` by threads, and all other commands as
+/// `plain` does. Files are read from `folder`, and what is due is written to `sink`: the text whole, or the one line of the
+/// refusal.
 ///
 /// A run that is done has written the report of one whole legal history of published and pinned steps, for every mesh file,
-/// script and interleaving (`headline`). The text is made whole before its first byte is written, so a run that memory or a
+/// script and interleaving (`headline`), and a watch what entered and left each box along such a history (`watched`). The text is made whole before its first byte is written, so a run that memory or a
 /// read cuts short writes nothing, and a write that fails leaves a front of such a report.
 ///
 /// The workers of a run wait for each other, so nothing promises that the call returns. `gate` is called at certain places of
 /// their work, by which a test may lead a run; a program passes `NoGate`. The memory is that of `plain`, with the steps that
-/// are held at once, the answers, and the report.
+/// are held at once, the answers, and the text.
 pub fn octopus<R: Threads + Wait + Sync, F: Folder, K: Sink, G: Gate>(
     rt: &R,
     alloc: Global,
@@ -92,6 +101,15 @@ pub fn octopus<R: Threads + Wait + Sync, F: Folder, K: Sink, G: Gate>(
     ensures read_fault { result ≡ Status.ReadFault → Rose (F.faults folder.old) (F.faults folder.new) × Keeps (K.written sink.old) (K.written sink.new) }
     ensures write_fault { result ≡ Status.WriteFault → Rose (K.faults sink.old) (K.faults sink.new) }
 
+    // A call that failed is the last one that fails, and is told.
+    ensures read_once { RisesOnce (F.faults folder.old) (F.faults folder.new) }
+    ensures read_ends { EndsAs Status.ReadFault result (F.faults folder.old) (F.faults folder.new) }
+    ensures write_once { RisesOnce (K.faults sink.old) (K.faults sink.new) }
+    ensures write_ends { EndsAs Status.WriteFault result (K.faults sink.old) (K.faults sink.new) }
+
+    // Memory is refused before the first byte is written.
+    ensures memory { WritesNone result (K.written sink.old) (K.written sink.new) }
+
     // A file with a fault is read to its end all the same.
     ensures read_whole { IsBadText result → IsAtEnd (F.rest folder.new) }
 
@@ -100,6 +118,9 @@ pub fn octopus<R: Threads + Wait + Sync, F: Folder, K: Sink, G: Gate>(
 
     // A run that is done has written the report of one whole history: that which the journal lines of the bytes added print.
     ensures headline { IfSome (F.files folder.old) (λ files. (job : JobView) → due_with_threads (map string_bytes words.now) files ≡ Play job → result ≡ Status.Done → WritesReport job (K.written sink.old) (K.written sink.new)) }
+
+    // The same of the watches of a run: they are those of the history that their own journal lines print.
+    ensures watched { IfSome (F.files folder.old) (λ files. (job : JobView) → due_with_threads (map string_bytes words.now) files ≡ Watched job → result ≡ Status.Done → WritesWatches job (K.written sink.old) (K.written sink.new)) }
 {
     do_all(rt, alloc, words, folder, sink, gate)
 }

@@ -4,9 +4,10 @@ ghost use Rattle.mesh_base.specs.Place.{IsCoordinate};
 ghost use Rattle.std.specs.Option.{option_map};
 ghost use Rattle.std.specs.String.{string_bytes};
 ghost use Rattle.octopus.specs.declared.words.Command.TheVariants.{Scan, Box};
-ghost use Rattle.octopus.specs.Words.{coordinate_of, corner_of, area_from, query_of, surface_of, side_of, gen_of, step_of, upgrade_of, command_of, named_as, run_of, demo_of, played_of, played_as};
+ghost use Rattle.octopus.specs.Words.{coordinate_of, corner_of, area_from, query_of, how_of, cells_on, cells_of, surface_of, side_of, gen_of, step_of, upgrade_of, command_of, named_as, run_of, demo_of, watch_of, played_of, played_as};
 
 use crate::block::{MOST_SIDE, Side};
+use cell_box::How;
 use mesh_base::{BoxQ, Point};
 use oct_text::{count, signed};
 
@@ -31,6 +32,8 @@ pub enum Command<N> {
     Upgrade { script: N },
     /// The answer of the box.
     Box { mesh: N, area: BoxQ },
+    /// The cells of the answer of the box.
+    Cells { mesh: N, area: BoxQ, how: How },
 }
 
 /// What is to be played by threads, with the names of the files that it reads.
@@ -40,6 +43,8 @@ pub enum Played<N> {
     Run { mesh: N, script: N },
     /// The job of a demo: the block of so many cubes a side, at most 40, shaken with this seed.
     Demo { side: Side, seed: u16 },
+    /// The job of a mesh and a script, for what enters and leaves each box.
+    Watch { mesh: N, script: N },
 }
 
 // The coordinate that a word spells.
@@ -91,6 +96,42 @@ fn read_box(words: &[String]) -> Option<Command<&str>>
     let area = read_area(lo, hi)?;
     let mesh = mesh.as_str();
     Some(Command::Box { mesh, area })
+}
+
+// Which cells a word asks for.
+#[tactic(auto, unfolding(crate::specs::Words::how_of))]
+fn read_how(word: &str) -> Option<How>
+    ensures { result ≡ how_of word.now }
+{
+    match word {
+        "all" => Some(How::Whole),
+        "some" => Some(How::Touching),
+        _ => None,
+    }
+}
+
+// The words behind the mesh of `cells`.
+fn read_cells_on<'a>(mesh: &'a str, words: &[String]) -> Option<Command<&'a str>>
+    ensures { option_map (named_as (λ name. name.now)) result ≡ cells_on mesh.now (map string_bytes words.now) }
+{
+    let [x0, y0, z0, x1, y1, z1, how] = words else {
+        return None;
+    };
+    let lo = read_corner(x0.as_str(), y0.as_str(), z0.as_str());
+    let hi = read_corner(x1.as_str(), y1.as_str(), z1.as_str());
+    let area = read_area(lo, hi)?;
+    let how = read_how(how.as_str())?;
+    Some(Command::Cells { mesh, area, how })
+}
+
+// The words behind `cells`.
+fn read_cells(words: &[String]) -> Option<Command<&str>>
+    ensures { option_map (named_as (λ name. name.now)) result ≡ cells_of (map string_bytes words.now) }
+{
+    let [mesh, rest @ ..] = words else {
+        return None;
+    };
+    read_cells_on(mesh.as_str(), rest)
 }
 
 // The word behind `surface`.
@@ -162,6 +203,7 @@ pub fn read_command(words: &[String]) -> Option<Command<&str>>
         "step" => read_step(rest),
         "upgrade" => read_upgrade(rest),
         "box" => read_box(rest),
+        "cells" => read_cells(rest),
         _ => None,
     }
 }
@@ -190,6 +232,18 @@ fn read_demo(words: &[String]) -> Option<Played<&str>>
     Some(Played::Demo { side, seed })
 }
 
+// The words behind `watch`.
+fn read_watch(words: &[String]) -> Option<Played<&str>>
+    ensures { option_map (played_as (λ name. name.now)) result ≡ watch_of (map string_bytes words.now) }
+{
+    let [mesh, script] = words else {
+        return None;
+    };
+    let mesh = mesh.as_str();
+    let script = script.as_str();
+    Some(Played::Watch { mesh, script })
+}
+
 /// What the words ask to be played, if they do.
 #[tactic(auto, unfolding(crate::specs::Words::played_of))]
 pub fn read_played(words: &[String]) -> Option<Played<&str>>
@@ -201,6 +255,7 @@ pub fn read_played(words: &[String]) -> Option<Played<&str>>
     match name.as_str() {
         "run" => read_run(rest),
         "demo" => read_demo(rest),
+        "watch" => read_watch(rest),
         _ => None,
     }
 }

@@ -12,7 +12,7 @@ use std::test::Fail;
 use vtk_legacy::read_mesh;
 
 // The words, the mesh, the script, and what is written.
-const ANSWERS: [(&str, &str, &str, &str); 19] = [
+const ANSWERS: [(&str, &str, &str, &str); 24] = [
     ("scan m.vtk 0 0 0 4 0 0", ONE, "", "count 2\n0 1\n"),
     ("scan m.vtk 1 1 1 3 3 3", ONE, "", "count 0\n"),
     ("scan m.vtk 0 0 0 4 0 0", EMPTY, "", "count 0\n"),
@@ -58,6 +58,36 @@ const ANSWERS: [(&str, &str, &str, &str); 19] = [
         RICH,
         "",
         "route probe\ncount 2\n0 1\n",
+    ),
+    (
+        "cells m.vtk 0 0 0 16 16 16 all",
+        SPLIT_TWICE,
+        "",
+        "route probe\ncount 7\n0 1 2 3 4 5 6\n",
+    ),
+    (
+        "cells m.vtk 4 4 4 4 4 4 all",
+        SPLIT_TWICE,
+        "",
+        "route walk\ncount 0\n",
+    ),
+    (
+        "cells m.vtk 4 4 4 4 4 4 some",
+        SPLIT_TWICE,
+        "",
+        "route walk\ncount 6\n0 1 2 3 5 6\n",
+    ),
+    (
+        "cells m.vtk 2 0 0 16 6 3 some",
+        SPLIT_TWICE,
+        "",
+        "route probe\ncount 3\n0 1 2\n",
+    ),
+    (
+        "cells m.vtk 0 0 0 0 0 0 some",
+        RICH,
+        "",
+        "route probe\ncount 1\n0\n",
     ),
     ("step m.vtk s.txt 1", WIDE, SPLITS, SPLIT_TWICE),
     ("upgrade s.txt", "", THREE_SHIFTS, THREE_SHIFTS_2),

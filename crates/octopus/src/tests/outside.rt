@@ -13,10 +13,15 @@ use std::thread::Threads;
 
 // The words, how many calls on the folder they make until their files are read, and what they write. Of a file of 136
 // bytes there are the selection, 20 reads of at most 7 bytes, and the read at the end; of one of 88 bytes 13 reads.
-const CALLS: [(&str, u64, &str); 5] = [
+const CALLS: [(&str, u64, &str); 6] = [
     ("scan m.vtk 0 0 0 4 0 0", 22, "count 2\n0 1\n"),
     ("surface m.vtk", 22, "count 4\n0 1 2 3\n"),
     ("box m.vtk 0 0 0 4 0 0", 22, "route probe\ncount 2\n0 1\n"),
+    (
+        "cells m.vtk 0 0 0 4 0 0 some",
+        22,
+        "route probe\ncount 1\n0\n",
+    ),
     ("step m.vtk s.txt 3", 37, MOVED_THRICE),
     ("upgrade s.txt", 15, THREE_SHIFTS_2),
 ];

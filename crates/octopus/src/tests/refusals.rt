@@ -10,13 +10,17 @@ use std::alloc::Global;
 use std::test::Fail;
 
 // Words without a form.
-const USAGE: [&str; 12] = [
+const USAGE: [&str; 16] = [
     "",
     "scan m.vtk 4 0 0 0 0 0",
     "scan m.vtk 0 0 0 4 0 1073741825",
     "surface",
     "box m.vtk 4 0 0 0 0 0",
     "box m.vtk 0 0 0 4 0",
+    "cells m.vtk 0 0 0 4 0 0",
+    "cells m.vtk 0 0 0 4 0 0 any",
+    "cells m.vtk 4 0 0 0 0 0 all",
+    "watch m.vtk",
     "gen 0",
     "gen 88",
     "gen +1",
@@ -42,7 +46,7 @@ fn words_without_a_form(rt: HostRuntime) -> Result<(), Fail> {
 }
 
 // The words, the mesh, the script, the status, and what is written. The script of a mesh with a fault isn't looked for.
-const REFUSED: [(&str, &str, &str, Status, &str); 13] = [
+const REFUSED: [(&str, &str, &str, Status, &str); 14] = [
     (
         "scan m.vtk 0 0 0 4 0 0",
         VERSION_6,
@@ -51,6 +55,13 @@ const REFUSED: [(&str, &str, &str, Status, &str); 13] = [
         "refused mesh Version 23\n",
     ),
     ("scan n.vtk 0 0 0 4 0 0", ONE, "", Status::ReadFault, ""),
+    (
+        "cells m.vtk 0 0 0 4 0 0 all",
+        VERSION_6,
+        "",
+        Status::BadMesh,
+        "refused mesh Version 23\n",
+    ),
     (
         "step m.vtk s.txt 4",
         ONE,

@@ -1,6 +1,6 @@
 //! Runs of scripts by threads, and demos.
 
-use super::texts::{HOLD, ONE, SPLITS, THREE_SHIFTS, VERSION_6, WIDE};
+use super::texts::{ASKED_TWICE, HOLD, ONE, SPLITS, THREE_SHIFTS, VERSION_6, WIDE};
 use super::{check, folder, run, sink};
 use crate::status::Status;
 use mesh_base::NoMemory;
@@ -10,6 +10,15 @@ use std::process::Abort;
 use std::sync::Wait;
 use std::test::Fail;
 use std::thread::Threads;
+
+/// The journal of one step and two turns that wait for it, in each of its orders.
+const TWO_TURNS: [&str; 5] = [
+    "journal 6\npublish 1\nclose\npin 0 1\nunpin 0 1\npin 0 1\nunpin 0 1\nend\n",
+    "journal 6\npublish 1\npin 0 1\nclose\nunpin 0 1\npin 0 1\nunpin 0 1\nend\n",
+    "journal 6\npublish 1\npin 0 1\nunpin 0 1\nclose\npin 0 1\nunpin 0 1\nend\n",
+    "journal 6\npublish 1\npin 0 1\nunpin 0 1\npin 0 1\nclose\nunpin 0 1\nend\n",
+    "journal 6\npublish 1\npin 0 1\nunpin 0 1\npin 0 1\nunpin 0 1\nclose\nend\n",
+];
 
 /// The mesh, the script, the report up to its journal, and the journal in each of its orders for this front.
 const RUNS: [(&str, &str, &str, [&str; 5]); 4] = [
@@ -53,13 +62,7 @@ const RUNS: [(&str, &str, &str, [&str; 5]); 4] = [
         WIDE,
         HOLD,
         "octopus report 1\nsteps 1\nsessions 1\nsession 0 boxes 3\nbox 0 step 1 route probe count 1\n0\nbox 1 step 1 route probe count 1\n1\nbox 2 step 1 route probe count 1\n2\n",
-        [
-            "journal 6\npublish 1\nclose\npin 0 1\nunpin 0 1\npin 0 1\nunpin 0 1\nend\n",
-            "journal 6\npublish 1\npin 0 1\nclose\nunpin 0 1\npin 0 1\nunpin 0 1\nend\n",
-            "journal 6\npublish 1\npin 0 1\nunpin 0 1\nclose\npin 0 1\nunpin 0 1\nend\n",
-            "journal 6\npublish 1\npin 0 1\nunpin 0 1\npin 0 1\nclose\nunpin 0 1\nend\n",
-            "journal 6\npublish 1\npin 0 1\nunpin 0 1\npin 0 1\nunpin 0 1\nclose\nend\n",
-        ],
+        TWO_TURNS,
     ),
 ];
 
@@ -108,12 +111,38 @@ fn reports_that_break_off(rt: HostRuntime) -> Result<(), Fail> {
     Ok(())
 }
 
+/// The watches of `ASKED_TWICE` on `ONE`, up to their journal.
+const WATCHES: &str =
+    "octopus watch 1\nsteps 1\nsessions 1\nsession 0 boxes 2\nbox 0 step 1 from - entered 2 left 0\n0 1\nbox 1 step 1 from 0 entered 0 left 0\n";
+
+/// The write that fails, if there is one, and the status.
+const WATCHED: [(u64, Status); 2] = [(1000, Status::Done), (19, Status::WriteFault)];
+
+#[test]
+fn watches(rt: HostRuntime) -> Result<(), Fail> {
+    let alloc = rt.alloc();
+    for (call, due) in WATCHED {
+        let from = folder(alloc, ONE.as_bytes(), ASKED_TWICE.as_bytes(), &[])?;
+        let to = sink(alloc, &[call])?;
+        let (status, text) = run(&rt, alloc, "watch m.vtk s.txt", from, to)?;
+        assert_eq!(rt; status, due, "write {call}");
+        let fits = TWO_TURNS.iter().any(|journal| is_text(
+            &text,
+            WATCHES,
+            journal,
+            due == Status::Done,
+        ));
+        assert!(rt; fits, "write {call}");
+    }
+    Ok(())
+}
+
 /// The summary of the block of one cube with the seed 7.
 const DEMO: &str =
     "octopus demo\npoints 8 cells 6 steps 8 sessions 4\nsession 0 probe 8 probe 4 probe 1\nsession 1 probe 8 probe 4 probe 1\nsession 2 probe 8 probe 4 probe 1\nsession 3 probe 8 probe 4 probe 1\nend\n";
 
 /// The words, the mesh, the script, the status, and what is written.
-const PLAYED: [(&str, &str, &str, Status, &str); 11] = [
+const PLAYED: [(&str, &str, &str, Status, &str); 13] = [
     ("demo 1 7", "", "", Status::Done, DEMO),
     ("demo 0 7", "", "", Status::Usage, "refused usage\n"),
     ("demo 41 7", "", "", Status::Usage, "refused usage\n"),
@@ -121,6 +150,20 @@ const PLAYED: [(&str, &str, &str, Status, &str); 11] = [
     ("demo 1", "", "", Status::Usage, "refused usage\n"),
     ("run m.vtk", ONE, "", Status::Usage, "refused usage\n"),
     ("run n.vtk s.txt", ONE, THREE_SHIFTS, Status::ReadFault, ""),
+    (
+        "watch m.vtk t.txt",
+        ONE,
+        THREE_SHIFTS,
+        Status::ReadFault,
+        "",
+    ),
+    (
+        "watch m.vtk s.txt",
+        ONE,
+        "octopus script 1\nremove 1\nstay\nend\n",
+        Status::BadScript,
+        "refused script NoCell 2\n",
+    ),
     ("run m.vtk t.txt", ONE, THREE_SHIFTS, Status::ReadFault, ""),
     (
         "run m.vtk t.txt",

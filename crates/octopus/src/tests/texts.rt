@@ -249,3 +249,13 @@ free
 box 1 16 0 1 16 0
 end
 ";
+
+/// One step, and a box that is asked twice of it.
+pub const ASKED_TWICE: &str = "octopus script 1
+shift 1 0 0
+session
+wait 1
+box 1 0 0 5 0 0
+box 1 0 0 5 0 0
+end
+";
