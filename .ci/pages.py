@@ -76,7 +76,7 @@ def check_examples(program: pathlib.Path) -> int:
 
 def matches(command: str, shown: str, written: str) -> bool:
     """A shown line `...` stands for any lines. The events of a run may come in another order."""
-    if command.startswith("octopus run "):
+    if command.startswith(("octopus run ", "octopus watch ")):
         return sorted(shown.splitlines()) == sorted(written.splitlines())
     parts = [re.escape(part) for part in re.split(r"^\.\.\.\n", shown, flags=re.M)]
     return re.fullmatch("(?:.*\n)*".join(parts), written) is not None
