@@ -1,4 +1,10 @@
-//! Values at their limits, and the scan of a small mesh.
+//! Values at their limits, the scan of a small mesh, and what it is for a box to be covered, worked out.
+ghost use Rattle.std.specs.Prelude.{◌≡◌, List, [], ◌∷◌, Contains};
+ghost use Rattle.mesh_base.specs.Mesh.{surface};
+ghost use Rattle.mesh_base.specs.Scan.{scan};
+ghost use Rattle.mesh_base.specs.Paths.{Joined, JoinedToOne};
+ghost use Rattle.mesh_base.specs.Parts.{IsCovered};
+ghost use Rattle.mesh_base.specs.Samples.{at, box, split_twice, empty};
 
 use crate::{
     Answer, AnswerList, BoxQ, Cell, CellList, Face, Mesh, Point, PointList, Route, VertexList,
@@ -110,4 +116,20 @@ fn places_are_found(rt: HostRuntime) {
     for (v, place) in [(5, Ok(1)), (6, Err(2)), (10, Err(3))] {
         assert_eq!(rt; place_of(&numbers, v), place, "of {v}");
     }
+}
+
+// In this box of a cell that was split twice lie 4 and 5 and no vertex of the surface: it is covered since both are joined to
+// each other. A box with nothing inside is covered, and so is each box of the empty mesh.
+fn sample_covers()
+    ensures inside { scan split_twice (box (at 2 4 3) (at 4 6 4)) ≡ 4 ∷ 5 ∷ [] }
+    ensures apart { ¬ JoinedToOne split_twice (box (at 2 4 3) (at 4 6 4)) (surface split_twice) 4 }
+    ensures joined { Joined split_twice (box (at 2 4 3) (at 4 6 4)) 4 5 }
+    ensures covered { IsCovered split_twice (box (at 2 4 3) (at 4 6 4)) }
+    ensures outside { IsCovered split_twice (box (at 20 20 20) (at 21 21 21)) }
+    ensures none { IsCovered empty (box (at 0 0 0) (at 9 9 9)) }
+{}
+
+#[test]
+fn covers_are_worked_out() {
+    sample_covers();
 }
