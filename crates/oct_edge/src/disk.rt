@@ -8,31 +8,33 @@ use std::marker::Model;
 use std::rt::Files;
 
 /// The files of the system. A name is a path, taken from the folder that the process runs in.
-/// At most one file is open at a time. Contracts see how many calls have failed.
+/// At most one file is open at a time. Contracts see how many files were selected, and how many calls have failed.
 #[derive(Drop)]
 pub struct DiskFolder<'a, R: Files> {
     rt: &'a R,
     current: Option<R::File>,
     faults: u64,
+    opened: u64,
 }
 
 impl<'a, R: Files> Model for DiskFolder<'a, R> {
-    ghost use Rattle.std.specs.Prelude.{ℕ};
+    ghost use Rattle.oct_edge.specs.Counted.{CallCounts};
 
-    ghost Value = { ℕ };
+    ghost Value = { CallCounts };
 
-    ghost view = { λ s. s.faults };
+    ghost view = { λ s. record { faults = s.faults; opened = s.opened } };
 }
 
 impl<'a, R: Files> DiskFolder<'a, R> {
-    /// No file is open, and no call has failed.
+    /// No file is open, no call was made, and so none has failed.
     pub fn new(rt: &'a R) -> DiskFolder<'a, R>
-        ensures { result ≡ 0 }
+        ensures { result ≡ record { faults = 0; opened = 0 } }
     {
         DiskFolder {
             rt,
             current: None,
             faults: 0,
+            opened: 0,
         }
     }
 }
@@ -42,10 +44,13 @@ impl<'a, R: Files> Folder for DiskFolder<'a, R> {
 
     ghost rest = { λ _. None };
 
-    ghost faults = { λ s. s };
+    ghost faults = { λ s. s.faults };
+
+    ghost opened = { λ s. s.opened };
 
     /// Opens the file. One call of the system.
     fn select(&mut self, name: &str) -> Result<(), Failed> {
+        self.opened = self.opened.saturating_add(1);
         match fs::open(self.rt, name) {
             Ok(file) => {
                 self.current = Some(file);

@@ -1,7 +1,7 @@
 //! The outside as the program sees it: files that are read, and bytes that are written.
 ghost use Rattle.std.specs.Prelude.{◌≡◌, ℕ, ◌≤◌, List, Option, length, IfOk};
 ghost use Rattle.std.specs.Io.KnownBytes.{ReadConsumes, WriteAppends};
-ghost use Rattle.oct_edge.specs.Causes.{HasCause};
+ghost use Rattle.oct_edge.specs.Causes.{raised, HasCause};
 ghost use Rattle.oct_edge.specs.Outside.{Files, Selects, TakesPart};
 
 /// A call on the outside failed: a file isn't there, or a read or a write was refused.
@@ -22,11 +22,15 @@ pub trait Folder {
     /// How many calls have failed: one more for each. The count stays at 2^64 - 1 once it is there.
     ghost faults: { Self → ℕ };
 
+    /// How many files were selected, those that aren't there among them. The count stays at 2^64 - 1 once it is there.
+    ghost opened: { Self → ℕ };
+
     /// Makes a file the current one, from its first byte. A missing file is a failure.
     /// After `Failed` the current file is empty.
     fn select(&mut self, name: &str) -> Result<(), Failed>
         ensures files { files self.new ≡ files self.old }
         ensures selected { Selects (files self.old) name.now result (rest self.new) }
+        ensures opened { opened self.new ≡ raised (opened self.old) }
         ensures cause { HasCause (faults self.old) (faults self.new) result };
 
     /// Reads on in the current file, into the front of `buf`, and says how many bytes it put there:
@@ -35,6 +39,7 @@ pub trait Folder {
     fn read(&mut self, buf: &mut [u8]) -> Result<usize, Failed>
         ensures bound { IfOk result (λ n. n ≤ length buf.new) }
         ensures files { files self.new ≡ files self.old }
+        ensures opened { opened self.new ≡ opened self.old }
         ensures bytes { ReadConsumes (rest self.old) (rest self.new) result buf.new }
         ensures cause { HasCause (faults self.old) (faults self.new) result };
 }

@@ -3,7 +3,7 @@ ghost use Rattle.std.specs.Prelude.{◌≡◌, ℕ, ◌+◌, ◌-◌, ◌^◌, �
 ghost use Rattle.std.specs.Io.KnownBytes.{ReadConsumes, WriteAppends};
 ghost use Rattle.oct_edge.specs.Causes.{raised, HasCause};
 ghost use Rattle.oct_edge.specs.Outside.{Files, Selects, TakesPart};
-ghost use Rattle.oct_edge.specs.Memory.{is_failing, FolderState, text_of, files_of, rest_at, read_len, select_fails, SinkState, write_fails, write_len, IsFolderCall, IsSinkCall};
+ghost use Rattle.oct_edge.specs.Memory.{is_failing, FolderState, EndlessState, text_of, files_of, rest_at, read_len, select_fails, SinkState, write_fails, write_len, IsFolderCall, IsSinkCall};
 
 use crate::edge::{Failed, Folder, Sink};
 use crate::lists::{CallList, FileList, NamedFile};
@@ -61,6 +61,7 @@ pub struct MemFolder {
     at: usize,
     most: usize,
     faults: u64,
+    opened: u64,
 }
 
 impl Model for MemFolder {
@@ -68,13 +69,13 @@ impl Model for MemFolder {
 
     ghost invariant = { λ s. 1 ≤ s.most };
 
-    ghost view = { λ s. record { files = s.files; failing = s.failing; call = s.call; rest = rest_at s.files s.chosen s.at; most = s.most; faults = s.faults } };
+    ghost view = { λ s. record { files = s.files; failing = s.failing; call = s.call; rest = rest_at s.files s.chosen s.at; most = s.most; faults = s.faults; opened = s.opened } };
 }
 
 impl MemFolder {
     /// No file is the current one, no call was made, and a read gives as much as there is.
     pub fn new(files: FileList, failing: CallList) -> MemFolder
-        ensures { result ≡ record { files = files; failing = failing; call = 0; rest = []; most = 2 ^ 64 - 1; faults = 0 } }
+        ensures { result ≡ record { files = files; failing = failing; call = 0; rest = []; most = 2 ^ 64 - 1; faults = 0; opened = 0 } }
     {
         let chosen = files.items().len();
         MemFolder {
@@ -85,6 +86,7 @@ impl MemFolder {
             at: 0,
             most: usize::MAX,
             faults: 0,
+            opened: 0,
         }
     }
 
@@ -101,6 +103,7 @@ impl MemFolder {
             at,
             most: _,
             faults,
+            opened,
         } = self;
         MemFolder {
             files,
@@ -110,6 +113,7 @@ impl MemFolder {
             at,
             most: most as usize,
             faults,
+            opened,
         }
     }
 }
@@ -121,15 +125,19 @@ impl Folder for MemFolder {
 
     ghost faults = { λ s. s.faults };
 
+    ghost opened = { λ s. s.opened };
+
     fn select(&mut self, name: &str) -> Result<(), Failed>
         ensures files { self.new.files ≡ self.old.files }
         ensures selected { Selects (Some (files_of self.old.files)) name.now result (Some self.new.rest) }
+        ensures opened { self.new.opened ≡ raised self.old.opened }
         ensures cause { HasCause self.old.faults self.new.faults result }
         ensures exact { is_err result ≡ select_fails self.old name.now }
         ensures counted { IsFolderCall self.old self.new }
     {
         let number = self.call;
         self.call = number.saturating_add(1);
+        self.opened = self.opened.saturating_add(1);
         let found = if is_among(self.failing.items(), number) {
             None
         } else {
@@ -152,6 +160,7 @@ impl Folder for MemFolder {
     fn read(&mut self, buf: &mut [u8]) -> Result<usize, Failed>
         ensures bound { IfOk result (λ n. n ≤ length buf.new) }
         ensures files { self.new.files ≡ self.old.files }
+        ensures opened { self.new.opened ≡ self.old.opened }
         ensures bytes { ReadConsumes (Some self.old.rest) (Some self.new.rest) result buf.new }
         ensures cause { HasCause self.old.faults self.new.faults result }
         ensures exact { is_err result ≡ is_failing self.old.failing self.old.call }
@@ -276,20 +285,21 @@ impl Sink for MemSink {
 #[derive(Drop)]
 pub struct EndlessFolder {
     byte: u8,
+    opened: u64,
 }
 
 impl Model for EndlessFolder {
-    ghost Value = { ℕ };
+    ghost Value = { EndlessState };
 
-    ghost view = { λ s. s.byte };
+    ghost view = { λ s. record { byte = s.byte; opened = s.opened } };
 }
 
 impl EndlessFolder {
-    /// Each file repeats this byte.
+    /// Each file repeats this byte. No file was selected.
     pub fn new(byte: u8) -> EndlessFolder
-        ensures { result ≡ byte }
+        ensures { result ≡ record { byte = byte; opened = 0 } }
     {
-        EndlessFolder { byte }
+        EndlessFolder { byte, opened: 0 }
     }
 }
 
@@ -300,17 +310,20 @@ impl Folder for EndlessFolder {
 
     ghost faults = { λ _. 0 };
 
+    ghost opened = { λ s. s.opened };
+
     fn select(&mut self, _name: &str) -> Result<(), Failed>
-        ensures same { self.new ≡ self.old }
+        ensures counted { self.new ≡ record self.old { opened = raised self.old.opened } }
         ensures ok { result ≡ Ok tt }
     {
+        self.opened = self.opened.saturating_add(1);
         Ok(())
     }
 
     fn read(&mut self, buf: &mut [u8]) -> Result<usize, Failed>
         ensures same { self.new ≡ self.old }
         ensures full { result ≡ Ok (length buf.new) }
-        ensures bytes { buf.new ≡ replicate (length buf.old) self.old }
+        ensures bytes { buf.new ≡ replicate (length buf.old) self.old.byte }
     {
         buf.fill(self.byte);
         Ok(buf.len())

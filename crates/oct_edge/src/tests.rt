@@ -107,9 +107,13 @@ fn the_real_outside(rt: HostRuntime) -> Result<(), Fail> {
     fs::write(&rt, "two_bytes.txt", b"ok".as_slice())?;
     assert!(rt; disk.select("two_bytes.txt").is_ok());
     let (bytes, ended) = read_all(rt.alloc(), &mut disk)?;
-    fs::remove_file(&rt, "two_bytes.txt")?;
     assert_eq!(rt; bytes.as_slice(), b"ok".as_slice());
     assert!(rt; ended);
+    // After a failed selection nothing of the file before is read.
+    assert!(rt; disk.select("two_bytes.txt").is_ok());
+    assert!(rt; disk.select("no/such/file").is_err());
+    fs::remove_file(&rt, "two_bytes.txt")?;
+    assert_eq!(rt; disk.read(&mut buf).ok(), Some(0));
     // A folder can be opened and not read.
     assert!(rt; disk.select(".").is_ok());
     assert!(rt; disk.read(&mut buf).is_err());
