@@ -7,6 +7,7 @@ pub mod TypeLemmas
 pub mod CellLemmas
 pub mod Shrinks
 pub mod MetadataLemmas
+mod BlankLines
 pub mod TokenStep
 pub mod Advance
 pub mod Feeding

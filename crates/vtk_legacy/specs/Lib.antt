@@ -2,6 +2,7 @@ pub mod Words
 pub mod Version
 pub mod Readings
 pub mod MeshText
+pub mod Metadata
 pub mod Kinds
 pub mod Outcome
 pub mod Kept

@@ -1,7 +1,8 @@
 //! Laws over the definitions.
-ghost use Rattle.std.specs.Prelude.{◌≡◌, ℕ, List, Result, Ok};
+ghost use Rattle.std.specs.Prelude.{◌≡◌, ℕ, List, true, Result, Ok};
 ghost use Rattle.mesh_base.specs.Mesh.{MeshView, IsMesh};
-ghost use Rattle.vtk_legacy.specs.MeshText.{Fault, mesh_text};
+ghost use Rattle.vtk_legacy.specs.MeshText.{Fault, mesh_text, blank_line_len};
+ghost use Rattle.vtk_legacy.specs.Metadata.{EndsAtBlankLine};
 
 /// Each text has an outcome, a mesh or its first fault, and only one.
 pub fn texts_have_one_outcome()
@@ -12,4 +13,9 @@ pub fn texts_have_one_outcome()
 /// The mesh of a text is within the limits, and each of its cells has four different points of it.
 pub fn texts_have_valid_meshes()
     ensures { (text : List ℕ) (mesh : MeshView) → mesh_text text ≡ Ok mesh → IsMesh mesh.points mesh.cells }
+{}
+
+/// A METADATA part ends behind its first line of blanks, and where there is none with the text.
+pub fn metadata_ends_at_a_blank_line()
+    ensures { (bytes : List ℕ) → EndsAtBlankLine bytes (blank_line_len true bytes) }
 {}

@@ -22,7 +22,7 @@ mod writer;
 mod writer_laws;
 
 pub use fault::{MeshFault, MeshKind};
-pub use laws::{texts_have_one_outcome, texts_have_valid_meshes};
+pub use laws::{metadata_ends_at_a_blank_line, texts_have_one_outcome, texts_have_valid_meshes};
 pub use reader::{MeshReader, read_mesh};
 pub use writer::write_mesh;
 pub use writer_laws::{written_is_read, written_meshes_are_whole};
