@@ -1,0 +1,5 @@
+pub mod Options
+pub mod PathLaws
+pub mod RingLists
+pub mod Spreading
+pub mod Trails

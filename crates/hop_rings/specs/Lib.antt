@@ -1,0 +1,3 @@
+pub mod Paths
+pub mod Rings
+pub mod Reached
