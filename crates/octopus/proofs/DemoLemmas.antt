@@ -22,7 +22,6 @@ use Rattle.report.specs.Last.{NeedsLast, answered_last}
 use Rattle.report.specs.Report.{listed}
 use Rattle.report.proofs.Written.{listed-is}
 use Rattle.report.proofs.Latest.{listed-last}
-use Rattle.report.proofs.Ranges.{flat_map_next}
 use Rattle.octopus.specs.Block.{block}
 use Rattle.octopus.specs.Lines.{line}
 use Rattle.octopus.specs.Demo.{demo_steps, demo_sessions, demo_boxes, whole_box, half_box, middle_box, demo_plan, demo_items, demo_script, demo_job, box_words, demo_line, demo_head, demo_text, answer_words, line_by, lines_by, summary_by}
@@ -99,11 +98,6 @@ answers_more s xs i x a b c lt is eb ec =
     ec ∙ (ap (λ l. l ++ flat_map answer_words new) eb
     ∙ (append_assoc a (flat_map answer_words kept) (flat_map answer_words new)
     ∙ ap (λ l. a ++ l) (sym (flat_map-append answer_words kept new) ∙ ap (flat_map answer_words) (sym step))))
-
-pub lines_more : (answers : List Answer) (s : ℕ) (a b c : List ℕ) → b ≡ a ++ lines_by answers s → c ≡ b ++ line_by answers s → c ≡ a ++ lines_by answers (s + 1)
-lines_more answers s a b c eb ec =
-    ec ∙ (ap (λ l. l ++ line_by answers s) eb
-    ∙ (append_assoc a (lines_by answers s) (line_by answers s) ∙ ap (λ l. a ++ l) (sym (flat_map_next (line_by answers) s))))
 
 same_texts : (f g : ℕ → List ℕ) (a n : ℕ) → ((s : ℕ) → s < a + n → f s ≡ g s) → flat_map f (range_with_len a n) ≡ flat_map g (range_with_len a n)
 same_texts f g a zero each = refl

@@ -1,6 +1,7 @@
 -- What the program owes for its words and for the files that there are: the first cause that applies.
 use Rattle.std.specs.Prelude.{ℕ, ◌^◌, nat_lt, if◌then◌else◌, List, length, Option, Some, None, Result, Ok, Err}
 use Rattle.oct_edge.specs.Outside.{Files}
+use Rattle.mesh_base.specs.Place.{Area}
 use Rattle.mesh_base.specs.Mesh.{MeshView, surface}
 use Rattle.mesh_base.specs.Query.{scan, route, answer}
 use Rattle.vtk_legacy.specs.Readings.{Fault}
@@ -13,7 +14,7 @@ use Rattle.script_format.specs.Printed.{script_spelling}
 use Rattle.run_script.specs.Jobs.{JobView, steps, step_at, checked}
 use Rattle.octopus.specs.declared.words.Command.{Command}
 use Rattle.cell_box.specs.Cells.{cells_by}
-use Rattle.octopus.specs.declared.words.Command.TheVariants.{Scan, Surface, Gen, Step, Upgrade, Box, Cells}
+use Rattle.octopus.specs.declared.words.Command.TheVariants.{Scan, Surface, Gen, Step, Upgrade, Box, Cells, Rings}
 use Rattle.octopus.specs.declared.refusal.Refusal.{Refusal}
 use Rattle.octopus.specs.declared.refusal.Refusal.TheVariants as refusals
 use Rattle.octopus.specs.Block.{block}
@@ -23,11 +24,13 @@ use Rattle.octopus.specs.Words.{command_of, played_of}
 use Rattle.octopus.specs.Demo.{demo_text}
 use Rattle.octopus.specs.Lines.{list_text, answer_text}
 
--- a file that is not there, a refusal, a text, or the report or the watches of a job that is played
+-- a file that is not there, a refusal, a text, the rings of a box on a mesh up to so many edges, or the report or the watches of
+-- a job that is played
 pub data Due : Type 0 where
   Missing : Due
   Refuse : Refusal → Due
   Text : List ℕ → Due
+  Round : MeshView → Area → ℕ → Due
   Play : JobView → Due
   Watched : JobView → Due
 
@@ -79,6 +82,7 @@ due_of (Some (Step name script k)) files = with_job (files name) (files script) 
 due_of (Some (Upgrade name)) files = with_script (files name) (λ script. Text (script_spelling (upgraded script)))
 due_of (Some (Box name area)) files = with_mesh (files name) (λ mesh. Text (answer_text (route mesh area) (answer mesh area)))
 due_of (Some (Cells name area how)) files = with_mesh (files name) (λ mesh. Text (answer_text (route mesh area) (cells_by how mesh (answer mesh area))))
+due_of (Some (Rings name area most)) files = with_mesh (files name) (λ mesh. Round mesh area most)
 
 -- what is due for these words and these files
 unfoldable pub due : List (List ℕ) → Files → Due

@@ -2,9 +2,11 @@ pub mod Words
 pub mod Lines
 pub mod Refusals
 pub mod Demo
+pub mod Rings
 pub mod Due
 pub mod Written
 pub mod Reading
+pub mod Opened
 pub mod Outcomes
 pub mod Codes
 pub mod Failures

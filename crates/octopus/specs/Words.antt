@@ -12,6 +12,7 @@ use Rattle.octopus.specs.declared.words.Command.TheVariants as commands
 use Rattle.octopus.specs.declared.words.Played.{Played}
 use Rattle.octopus.specs.declared.words.Played.TheVariants as played
 use Rattle.octopus.specs.Block.{most_side}
+use Rattle.octopus.specs.Rings.{most_hops}
 
 -- the coordinate that a word spells: a signed number from -2^30 to 2^30
 abbrev pub coordinate_of : List ℕ → Option ℤ
@@ -61,6 +62,21 @@ abbrev pub cells_of : List (List ℕ) → Option (Command (List ℕ))
 cells_of [] = None
 cells_of (mesh ∷ rest) = cells_on mesh rest
 
+abbrev pub rings_from : List ℕ → Option Area → Option ℕ → Option (Command (List ℕ))
+rings_from mesh (Some area) (Some most) = Some (commands.Rings mesh area most)
+rings_from mesh (Some area) None = None
+rings_from mesh None most = None
+
+-- the words behind the mesh of `rings`: x0 y0 z0 x1 y1 z1 H, H a count of at most 1,000
+abbrev pub rings_on : List ℕ → List (List ℕ) → Option (Command (List ℕ))
+rings_on mesh (x0 ∷ y0 ∷ z0 ∷ x1 ∷ y1 ∷ z1 ∷ h ∷ []) = rings_from mesh (area_from (corner_of x0 y0 z0) (corner_of x1 y1 z1)) (result_ok (count_of h most_hops))
+rings_on mesh _ = None
+
+-- the words behind `rings`: MESH, and those
+abbrev pub rings_of : List (List ℕ) → Option (Command (List ℕ))
+rings_of [] = None
+rings_of (mesh ∷ rest) = rings_on mesh rest
+
 -- the word behind `surface`: MESH
 abbrev pub surface_of : List (List ℕ) → Option (Command (List ℕ))
 surface_of (mesh ∷ []) = Some (commands.Surface mesh)
@@ -103,6 +119,7 @@ named name rest =
     else if bytes_eq name (codes "upgrade") then upgrade_of rest
     else if bytes_eq name (codes "box") then query_of commands.Box rest
     else if bytes_eq name (codes "cells") then cells_of rest
+    else if bytes_eq name (codes "rings") then rings_of rest
     else None
 
 -- the command of the words, if they have a form
@@ -119,6 +136,7 @@ named_as f (commands.Step mesh script step) = commands.Step (f mesh) (f script) 
 named_as f (commands.Upgrade script) = commands.Upgrade (f script)
 named_as f (commands.Box mesh area) = commands.Box (f mesh) area
 named_as f (commands.Cells mesh area how) = commands.Cells (f mesh) area how
+named_as f (commands.Rings mesh area most) = commands.Rings (f mesh) area most
 
 -- ---- the commands that play a job
 

@@ -7,13 +7,15 @@ use Rattle.octopus.specs.Refusals.{status_of_refusal, refusal_line}
 use Rattle.run_script.specs.Jobs.{JobView}
 use Rattle.report.specs.Headline.{Reports}
 use Rattle.box_watch.specs.WatchText.{Watches}
-use Rattle.octopus.specs.Due.{Due, Missing, Refuse, Text, Play, Watched}
+use Rattle.octopus.specs.Rings.{TellsRings}
+use Rattle.octopus.specs.Due.{Due, Missing, Refuse, Text, Round, Play, Watched}
 
 -- the status that goes with what is due, where the files are there
 abbrev pub settled : Due → Option Status
 settled Missing = None
 settled (Refuse why) = Some (status_of_refusal why)
 settled (Text text) = Some Done
+settled (Round mesh area most) = Some Done
 settled (Play job) = Some Done
 settled (Watched job) = Some Done
 
@@ -22,6 +24,7 @@ abbrev pub Spells : Due → List ℕ → Type 0
 Spells Missing x = ⊥
 Spells (Refuse why) x = x ≡ refusal_line why
 Spells (Text text) x = x ≡ text
+Spells (Round mesh area most) x = TellsRings mesh area most x
 Spells (Play job) x = Reports job x
 Spells (Watched job) x = Watches job x
 

@@ -4,6 +4,7 @@ pub mod box_answer;
 pub mod cells;
 pub mod demo;
 pub mod gen_block;
+pub mod rings;
 pub mod run;
 pub mod scan;
 pub mod step;

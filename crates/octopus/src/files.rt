@@ -1,7 +1,9 @@
 //! The two kinds of files that the program reads.
 ghost use Rattle.std.specs.Prelude.{◌≡◌, length};
 ghost use Rattle.vtk_legacy.specs.Reader.{HasRead, fed_len};
-ghost use Rattle.octopus.specs.Due.{with_mesh, with_script, with_job};
+ghost use Rattle.run_script.specs.Jobs.{checked};
+ghost use Rattle.octopus.specs.Due.{on_script, with_mesh, with_script, with_job};
+ghost use Rattle.octopus.specs.Opened.{most_of_job};
 ghost use Rattle.octopus.specs.Outcomes.{Brings};
 
 use crate::intake::{Intake, read_file};
@@ -52,7 +54,7 @@ impl Intake for Held {
 
 /// Reads a mesh from a file.
 pub fn load_mesh<F: Folder>(alloc: Global, name: &str, folder: &mut F) -> Result<Mesh, Early>
-    ensures { Brings F.files F.rest F.faults folder.old folder.new result (λ files. with_mesh (files name.now)) }
+    ensures { Brings F.files F.rest F.faults F.opened 1 folder.old folder.new result (λ files. with_mesh (files name.now)) }
 {
     let mut reader = MeshReader::new(alloc);
     read_file(
@@ -68,7 +70,7 @@ pub fn load_mesh<F: Folder>(alloc: Global, name: &str, folder: &mut F) -> Result
 
 /// Reads a script from a file. Its bytes are held until it is read.
 pub fn load_script<F: Folder>(alloc: Global, name: &str, folder: &mut F) -> Result<Script, Early>
-    ensures { Brings F.files F.rest F.faults folder.old folder.new result (λ files. with_script (files name.now)) }
+    ensures { Brings F.files F.rest F.faults F.opened 1 folder.old folder.new result (λ files. with_script (files name.now)) }
 {
     let mut held = Held {
         bytes: Vec::new(alloc),
@@ -84,16 +86,24 @@ pub fn load_script<F: Folder>(alloc: Global, name: &str, folder: &mut F) -> Resu
     Ok(read_script(alloc, &held.bytes)?)
 }
 
+// Reads a script and checks it on the mesh.
+fn load_on<F: Folder>(alloc: Global, mesh: Mesh, script: &str, folder: &mut F) -> Result<Job, Early>
+    ensures { Brings F.files F.rest F.faults F.opened 1 folder.old folder.new result (λ files go. with_script (files script.now) (λ read. on_script (checked mesh read) go)) }
+{
+    let script = load_script(alloc, script, folder)?;
+    Ok(Job::check(alloc, mesh, script)?)
+}
+
 /// Reads a mesh and then a script, and checks the script on the mesh: the job that they make.
+#[tactic(auto, using(crate::proofs::OpenLaws::one_opened))]
 pub fn load_job<F: Folder>(
     alloc: Global,
     mesh: &str,
     script: &str,
     folder: &mut F,
 ) -> Result<Job, Early>
-    ensures { Brings F.files F.rest F.faults folder.old folder.new result (λ files. with_job (files mesh.now) (files script.now)) }
+    ensures { Brings F.files F.rest F.faults F.opened (most_of_job (F.files folder.old) mesh.now) folder.old folder.new result (λ files. with_job (files mesh.now) (files script.now)) }
 {
     let mesh = load_mesh(alloc, mesh, folder)?;
-    let script = load_script(alloc, script, folder)?;
-    Ok(Job::check(alloc, mesh, script)?)
+    load_on(alloc, mesh, script, folder)
 }

@@ -6,6 +6,7 @@ ghost use Rattle.octopus.specs.declared.status.Status.TheVariants.{ReadFault, To
 ghost use Rattle.octopus.specs.Refusals.{status_of_refusal};
 ghost use Rattle.octopus.specs.Reading.{Feeds, HasTaken, HasFed, Holds, IsTaken};
 ghost use Rattle.octopus.specs.Failures.{RisesOnce, EndsAs};
+ghost use Rattle.octopus.specs.Opened.{limit_of};
 ghost use Rattle.octopus.specs.Outcomes.{status_of, IfRefused, Reads};
 
 use crate::outcome::Early;
@@ -43,6 +44,7 @@ fn feed_piece<F: Folder, I: Intake>(
     ensures fed { (given : List ℕ) → I.holds taker.old given → IfOk result (λ count. Feeds I.holds (F.rest folder.old) (F.rest folder.new) given taker.new count) }
     ensures len { IfOk result (λ count. (count ≤ length buf.new) × (I.size taker.new ≤ I.size taker.old + count)) }
     ensures files { F.files folder.new ≡ F.files folder.old }
+    ensures opened { F.opened folder.new ≡ F.opened folder.old }
     ensures later { F.faults folder.old ≤ F.faults folder.new }
     ensures cause { status_of result ≡ ReadFault → Rose (F.faults folder.old) (F.faults folder.new) }
     ensures once { RisesOnce (F.faults folder.old) (F.faults folder.new) }
@@ -68,6 +70,7 @@ fn feed_file<F: Folder, I: Intake>(
     requires none { I.size taker.old ≡ 0 }
     ensures fed { IfOk result (λ whole. HasFed I.holds (F.rest folder.old) (F.rest folder.new) taker.new limit whole) }
     ensures files { F.files folder.new ≡ F.files folder.old }
+    ensures opened { F.opened folder.new ≡ F.opened folder.old }
     ensures later { F.faults folder.old ≤ F.faults folder.new }
     ensures cause { status_of result ≡ ReadFault → Rose (F.faults folder.old) (F.faults folder.new) }
     ensures once { RisesOnce (F.faults folder.old) (F.faults folder.new) }
@@ -102,7 +105,8 @@ fn make_buffer(alloc: Global) -> Result<Vec<u8>, NoMemory>
 }
 
 /// Gives a whole file to what takes its bytes. A file of more than `limit` bytes is refused as `too_long`, once one
-/// byte more was read. The file is read once, in pieces of at most 65,536 bytes.
+/// byte more was read. The file is opened once and read once, in pieces of at most 65,536 bytes.
+#[tactic(auto, using(crate::proofs::Known::opened_once))]
 pub fn read_file<F: Folder, I: Intake>(
     alloc: Global,
     name: &str,
@@ -113,9 +117,10 @@ pub fn read_file<F: Folder, I: Intake>(
 ) -> Result<(), Early>
     requires small { limit ≤ 2 ^ 30 }
     requires long { status_of_refusal too_long ≡ TooLong }
+    requires limit { limit_of too_long ≡ limit }
     requires new { I.holds taker.old [] }
     requires none { I.size taker.old ≡ 0 }
-    ensures reads { Reads F.files F.rest F.faults folder.old folder.new result (λ files. IsTaken I.holds (files name.now) limit too_long taker.new result) }
+    ensures reads { Reads F.files F.rest F.faults F.opened 1 folder.old folder.new result (λ files. IsTaken I.holds (files name.now) limit too_long taker.new result) }
     ensures refused { IfRefused result (λ why. why ≡ too_long) }
     ensures whole { OnOk result (Holds I.holds taker.new limit × IsAtEnd (F.rest folder.new)) }
 {

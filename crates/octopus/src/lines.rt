@@ -1,5 +1,5 @@
 //! The lines that are written.
-ghost use Rattle.std.specs.Prelude.{◌≡◌, ◌++◌, ◌∷◌, [], IfOk, OnOk};
+ghost use Rattle.std.specs.Prelude.{◌≡◌, ◌++◌, ◌∷◌, [], codes, IfOk, OnOk};
 ghost use Rattle.std.specs.Fmt.{decimal};
 ghost use Rattle.octopus.specs.Lines.{line, no_step_line, route_word, answer_text, list_text, list_line};
 
@@ -16,8 +16,8 @@ fn put_count(alloc: Global, out: &mut Vec<u8>, value: u64) -> Result<(), NoMemor
     put_text(alloc, out, buffer.format(value).as_bytes())
 }
 
-// Appends a line of numbers, or nothing where there are none.
-fn put_list_line(alloc: Global, out: &mut Vec<u8>, numbers: &[u32]) -> Result<(), NoMemory>
+/// Appends a line of numbers, or nothing where there are none.
+pub fn put_list_line(alloc: Global, out: &mut Vec<u8>, numbers: &[u32]) -> Result<(), NoMemory>
     ensures { OnOk result (out.new.items ≡ out.old.items ++ list_line numbers.now) }
 {
     if numbers.is_empty() {
@@ -81,13 +81,21 @@ fn name_of_route(route: Route) -> &'static str
     }
 }
 
+/// Appends the line that tells how an answer was found.
+pub fn put_route(alloc: Global, out: &mut Vec<u8>, route: Route) -> Result<(), NoMemory>
+    ensures { OnOk result (out.new.items ≡ out.old.items ++ line (codes "route " ++ route_word route)) }
+{
+    put_text(alloc, out, b"route ")?;
+    put_text(alloc, out, name_of_route(route).as_bytes())?;
+    put_text(alloc, out, b"\n")
+}
+
 /// How an answer was found, and its vertices.
 pub fn answer_lines(alloc: Global, route: Route, vertices: &[u32]) -> Result<Vec<u8>, NoMemory>
     ensures { IfOk result (λ text. text.items ≡ answer_text route vertices.now) }
 {
-    let mut out = b"route ".to_vec(alloc)?;
-    put_text(alloc, &mut out, name_of_route(route).as_bytes())?;
-    put_text(alloc, &mut out, b"\n")?;
+    let mut out = Vec::new(alloc);
+    put_route(alloc, &mut out, route)?;
     put_list_text(alloc, &mut out, vertices)?;
     Ok(out)
 }

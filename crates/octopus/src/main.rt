@@ -10,6 +10,7 @@ mod commands;
 mod deliver;
 mod demo_job;
 mod files;
+mod hops;
 mod intake;
 mod lines;
 mod one_step;

@@ -1,17 +1,19 @@
 //! The commands that need no thread.
-ghost use Rattle.std.specs.Prelude.{◌≡◌, ◌≢◌, ◌⊎◌, map, IfSome, Some, None};
+ghost use Rattle.std.specs.Prelude.{◌≡◌, ◌≢◌, ◌+◌, ◌≤◌, ◌⊎◌, map, IfSome, Some, None};
 ghost use Rattle.std.specs.String.{string_bytes};
 ghost use Rattle.std.specs.Io.KnownBytes.{Keeps, IsAtEnd};
 ghost use Rattle.oct_edge.specs.Causes.{Rose};
 ghost use Rattle.octopus.specs.Words.{command_of};
 ghost use Rattle.octopus.specs.Due.{due, due_of_words};
 ghost use Rattle.octopus.specs.Failures.{RisesOnce, EndsAs, WritesNone};
+ghost use Rattle.octopus.specs.Opened.{most_opened, ReadsPast};
 ghost use Rattle.octopus.specs.Written.{Gives, IsBadText, settled};
 ghost use Rattle.octopus.specs.Outcomes.{Reads, Settles, status_of};
 
 use crate::commands::box_answer::run_box;
 use crate::commands::cells::run_cells;
 use crate::commands::gen_block::block_text;
+use crate::commands::rings::run_rings;
 use crate::commands::scan::run_scan;
 use crate::commands::step::run_step;
 use crate::commands::surface::run_surface;
@@ -25,9 +27,9 @@ use oct_edge::{Folder, Sink};
 use std::alloc::Global;
 
 // What is to be written. Nothing was written yet.
-#[tactic(auto, unfolding(crate::specs::Due::due))]
+#[tactic(auto, unfolding(crate::specs::Due::due, crate::specs::Opened::most_opened))]
 fn prepare<F: Folder>(alloc: Global, words: &[String], folder: &mut F) -> Result<Vec<u8>, Early>
-    ensures reads { Reads F.files F.rest F.faults folder.old folder.new result (λ files. Settles (due (map string_bytes words.now) files) result) }
+    ensures reads { Reads F.files F.rest F.faults F.opened (most_opened (map string_bytes words.now) (F.files folder.old)) folder.old folder.new result (λ files. Settles (due (map string_bytes words.now) files) result) }
     ensures at_once { IfSome (due_of_words (command_of (map string_bytes words.now))) (λ owed. Settles owed result × (status_of result ≢ Status.ReadFault)) }
     ensures usage { status_of result ≡ Status.Usage → command_of (map string_bytes words.now) ≡ None }
 {
@@ -44,6 +46,7 @@ fn prepare<F: Folder>(alloc: Global, words: &[String], folder: &mut F) -> Result
         Command::Upgrade { script } => run_upgrade(alloc, script, folder),
         Command::Box { mesh, area } => run_box(alloc, mesh, &area, folder),
         Command::Cells { mesh, area, how } => run_cells(alloc, mesh, &area, how, folder),
+        Command::Rings { mesh, area, most } => run_rings(alloc, mesh, &area, most, folder),
     }
 }
 
@@ -54,7 +57,7 @@ fn prepare<F: Folder>(alloc: Global, words: &[String], folder: &mut F) -> Result
 /// A script is looked for only once the mesh was accepted.
 ///
 /// Its time is that of reading the files once and of the work: for `step` that of each step up to the one that is asked
-/// for, for `box` and `cells` that of the mesh's tables and of one answer. It holds the mesh with its tables, the bytes of a script
+/// for, for `box`, `cells` and `rings` that of the mesh's tables and of one answer. It holds the mesh with its tables, the bytes of a script
 /// while they are read, and the text written.
 pub fn plain<F: Folder, K: Sink>(
     alloc: Global,
@@ -81,8 +84,12 @@ pub fn plain<F: Folder, K: Sink>(
     // Memory is refused before the first byte is written.
     ensures memory { WritesNone result (K.written sink.old) (K.written sink.new) }
 
-    // A file with a fault is read to its end all the same.
+    // A file with a fault is read to its end all the same, and of one that is too long exactly one byte past its limit is read.
     ensures read_whole { IsBadText result → IsAtEnd (F.rest folder.new) }
+    ensures read_past { ReadsPast (F.files folder.old) (due (map string_bytes words.now)) result (F.rest folder.new) }
+
+    // Each file that the words name is opened once at most, and the script only where the mesh was accepted.
+    ensures opens { F.opened folder.new ≤ F.opened folder.old + most_opened (map string_bytes words.now) (F.files folder.old) }
 
     // Where the outside did not fail, the status is what is due, or want of memory.
     ensures complete { IfSome (F.files folder.old) (λ files. ¬ (Rose (F.faults folder.old) (F.faults folder.new)) → ¬ (Rose (K.faults sink.old) (K.faults sink.new)) → (result ≡ Status.Memory) ⊎ (settled (due (map string_bytes words.now) files) ≡ Some result)) }

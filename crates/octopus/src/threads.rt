@@ -1,9 +1,10 @@
 //! All commands, with those that play a job by threads.
-ghost use Rattle.std.specs.Prelude.{◌≡◌, ◌≢◌, ◌⊎◌, map, IfSome, None};
+ghost use Rattle.std.specs.Prelude.{◌≡◌, ◌≢◌, ◌+◌, ◌≤◌, ◌⊎◌, map, IfSome, None};
 ghost use Rattle.std.specs.String.{string_bytes};
 ghost use Rattle.std.specs.Io.KnownBytes.{Keeps, IsAtEnd};
 ghost use Rattle.oct_edge.specs.Causes.{Rose};
 ghost use Rattle.octopus.specs.Failures.{RisesOnce, EndsAs, WritesNone};
+ghost use Rattle.octopus.specs.Opened.{most_of_played, most_opened_with_threads, ReadsPast};
 ghost use Rattle.run_script.specs.Jobs.{JobView};
 ghost use Rattle.octopus.specs.Words.{command_of, played_of, played_as};
 ghost use Rattle.octopus.specs.Due.{Play, Watched, due_of_played, due_with_threads, due_of_played_words, due_at_once};
@@ -32,7 +33,7 @@ fn prepare_played<R: Threads + Wait + Sync, F: Folder, G: Gate>(
     folder: &mut F,
     gate: &G,
 ) -> Result<Vec<u8>, Early>
-    ensures owes { Owes F.files F.rest F.faults folder.old folder.new result (due_of_played (played_as (λ name. name.now) played.entry)) }
+    ensures owes { Owes F.files F.rest F.faults F.opened (most_of_played (played_as (λ name. name.now) played.entry) (F.files folder.old)) folder.old folder.new result (due_of_played (played_as (λ name. name.now) played.entry)) }
     ensures at_once { IfSome (due_of_played_words (played_as (λ name. name.now) played.entry)) (λ owed. Settles owed result × (status_of result ≢ Status.ReadFault)) }
 {
     match played {
@@ -43,7 +44,7 @@ fn prepare_played<R: Threads + Wait + Sync, F: Folder, G: Gate>(
 }
 
 // The same as `octopus`, but for its last two clauses.
-#[tactic(auto, unfolding(crate::specs::Due::due_with_threads))]
+#[tactic(auto, unfolding(crate::specs::Due::due_with_threads, crate::specs::Opened::most_opened_with_threads))]
 fn do_all<R: Threads + Wait + Sync, F: Folder, K: Sink, G: Gate>(
     rt: &R,
     alloc: Global,
@@ -63,6 +64,8 @@ fn do_all<R: Threads + Wait + Sync, F: Folder, K: Sink, G: Gate>(
     ensures write_ends { EndsAs Status.WriteFault result (K.faults sink.old) (K.faults sink.new) }
     ensures memory { WritesNone result (K.written sink.old) (K.written sink.new) }
     ensures read_whole { IsBadText result → IsAtEnd (F.rest folder.new) }
+    ensures read_past { ReadsPast (F.files folder.old) (due_with_threads (map string_bytes words.now)) result (F.rest folder.new) }
+    ensures opens { F.opened folder.new ≤ F.opened folder.old + most_opened_with_threads (map string_bytes words.now) (F.files folder.old) }
     ensures complete { IfSome (F.files folder.old) (λ files. ¬ (Rose (F.faults folder.old) (F.faults folder.new)) → ¬ (Rose (K.faults sink.old) (K.faults sink.new)) → (result ≡ Status.Memory) ⊎ (settled (due_with_threads (map string_bytes words.now) files) ≡ Some result)) }
 {
     let Some(played) = read_played(words) else {
@@ -110,8 +113,12 @@ pub fn octopus<R: Threads + Wait + Sync, F: Folder, K: Sink, G: Gate>(
     // Memory is refused before the first byte is written.
     ensures memory { WritesNone result (K.written sink.old) (K.written sink.new) }
 
-    // A file with a fault is read to its end all the same.
+    // A file with a fault is read to its end all the same, and of one that is too long exactly one byte past its limit is read.
     ensures read_whole { IsBadText result → IsAtEnd (F.rest folder.new) }
+    ensures read_past { ReadsPast (F.files folder.old) (due_with_threads (map string_bytes words.now)) result (F.rest folder.new) }
+
+    // Each file that the words name is opened once at most, and the script only where the mesh was accepted.
+    ensures opens { F.opened folder.new ≤ F.opened folder.old + most_opened_with_threads (map string_bytes words.now) (F.files folder.old) }
 
     // Where the outside did not fail, the status is what is due, or want of memory.
     ensures complete { IfSome (F.files folder.old) (λ files. ¬ (Rose (F.faults folder.old) (F.faults folder.new)) → ¬ (Rose (K.faults sink.old) (K.faults sink.new)) → (result ≡ Status.Memory) ⊎ (settled (due_with_threads (map string_bytes words.now) files) ≡ Some result)) }

@@ -4,9 +4,10 @@ ghost use Rattle.mesh_base.specs.Place.{IsCoordinate};
 ghost use Rattle.std.specs.Option.{option_map};
 ghost use Rattle.std.specs.String.{string_bytes};
 ghost use Rattle.octopus.specs.declared.words.Command.TheVariants.{Scan, Box};
-ghost use Rattle.octopus.specs.Words.{coordinate_of, corner_of, area_from, query_of, how_of, cells_on, cells_of, surface_of, side_of, gen_of, step_of, upgrade_of, command_of, named_as, run_of, demo_of, watch_of, played_of, played_as};
+ghost use Rattle.octopus.specs.Words.{coordinate_of, corner_of, area_from, query_of, how_of, cells_on, cells_of, rings_on, rings_of, surface_of, side_of, gen_of, step_of, upgrade_of, command_of, named_as, run_of, demo_of, watch_of, played_of, played_as};
 
 use crate::block::{MOST_SIDE, Side};
+use crate::hops::{Hops, MOST_HOPS};
 use cell_box::How;
 use mesh_base::{BoxQ, Point};
 use oct_text::{count, signed};
@@ -34,6 +35,8 @@ pub enum Command<N> {
     Box { mesh: N, area: BoxQ },
     /// The cells of the answer of the box.
     Cells { mesh: N, area: BoxQ, how: How },
+    /// The rings round the answer of the box, up to so many edges away.
+    Rings { mesh: N, area: BoxQ, most: Hops },
 }
 
 /// What is to be played by threads, with the names of the files that it reads.
@@ -134,6 +137,30 @@ fn read_cells(words: &[String]) -> Option<Command<&str>>
     read_cells_on(mesh.as_str(), rest)
 }
 
+// The words behind the mesh of `rings`.
+fn read_rings_on<'a>(mesh: &'a str, words: &[String]) -> Option<Command<&'a str>>
+    ensures { option_map (named_as (λ name. name.now)) result ≡ rings_on mesh.now (map string_bytes words.now) }
+{
+    let [x0, y0, z0, x1, y1, z1, most] = words else {
+        return None;
+    };
+    let lo = read_corner(x0.as_str(), y0.as_str(), z0.as_str());
+    let hi = read_corner(x1.as_str(), y1.as_str(), z1.as_str());
+    let area = read_area(lo, hi)?;
+    let most = Hops::new(count(most.as_bytes(), u64::from(MOST_HOPS)).ok()? as u32);
+    Some(Command::Rings { mesh, area, most })
+}
+
+// The words behind `rings`.
+fn read_rings(words: &[String]) -> Option<Command<&str>>
+    ensures { option_map (named_as (λ name. name.now)) result ≡ rings_of (map string_bytes words.now) }
+{
+    let [mesh, rest @ ..] = words else {
+        return None;
+    };
+    read_rings_on(mesh.as_str(), rest)
+}
+
 // The word behind `surface`.
 fn read_surface(words: &[String]) -> Option<Command<&str>>
     ensures { option_map (named_as (λ name. name.now)) result ≡ surface_of (map string_bytes words.now) }
@@ -204,6 +231,7 @@ pub fn read_command(words: &[String]) -> Option<Command<&str>>
         "upgrade" => read_upgrade(rest),
         "box" => read_box(rest),
         "cells" => read_cells(rest),
+        "rings" => read_rings(rest),
         _ => None,
     }
 }

@@ -36,7 +36,7 @@ pub fn run_cells<F: Folder>(
     how: How,
     folder: &mut F,
 ) -> Result<Vec<u8>, Early>
-    ensures { Owes F.files F.rest F.faults folder.old folder.new result (due_of (Some (commands.Cells mesh.now area.now how))) }
+    ensures { Owes F.files F.rest F.faults F.opened 1 folder.old folder.new result (due_of (Some (commands.Cells mesh.now area.now how))) }
 {
     let mesh = load_mesh(alloc, mesh, folder)?;
     let step = only_step(alloc, mesh)?;

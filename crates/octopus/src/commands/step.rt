@@ -4,6 +4,7 @@ ghost use Rattle.vtk_legacy.specs.Written.{mesh_spelling};
 ghost use Rattle.run_script.specs.Jobs.{step_at};
 ghost use Rattle.octopus.specs.declared.words.Command.TheVariants as commands;
 ghost use Rattle.octopus.specs.Due.{due_of};
+ghost use Rattle.octopus.specs.Opened.{most_of_job};
 ghost use Rattle.octopus.specs.Outcomes.{Owes};
 
 use crate::files::load_job;
@@ -51,7 +52,7 @@ pub fn run_step<F: Folder>(
     step: u32,
     folder: &mut F,
 ) -> Result<Vec<u8>, Early>
-    ensures { Owes F.files F.rest F.faults folder.old folder.new result (due_of (Some (commands.Step mesh.now script.now step))) }
+    ensures { Owes F.files F.rest F.faults F.opened (most_of_job (F.files folder.old) mesh.now) folder.old folder.new result (due_of (Some (commands.Step mesh.now script.now step))) }
 {
     let job = load_job(alloc, mesh, script, folder)?;
     let last = job.steps();

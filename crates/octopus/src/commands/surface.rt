@@ -25,7 +25,7 @@ fn surface_text(alloc: Global, mesh: &Mesh) -> Result<Vec<u8>, NoMemory>
 
 /// Reads the mesh and lists its surface.
 pub fn run_surface<F: Folder>(alloc: Global, mesh: &str, folder: &mut F) -> Result<Vec<u8>, Early>
-    ensures { Owes F.files F.rest F.faults folder.old folder.new result (due_of (Some (Surface mesh.now))) }
+    ensures { Owes F.files F.rest F.faults F.opened 1 folder.old folder.new result (due_of (Some (Surface mesh.now))) }
 {
     let mesh = load_mesh(alloc, mesh, folder)?;
     Ok(surface_text(alloc, &mesh)?)

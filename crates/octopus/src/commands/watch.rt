@@ -3,6 +3,7 @@ ghost use Rattle.std.specs.Prelude.{◌≡◌, IfOk};
 ghost use Rattle.box_watch.specs.WatchText.{Watches};
 ghost use Rattle.octopus.specs.declared.words.Played.TheVariants.{Watch};
 ghost use Rattle.octopus.specs.Due.{due_of_played};
+ghost use Rattle.octopus.specs.Opened.{most_of_job};
 ghost use Rattle.octopus.specs.Outcomes.{Owes};
 
 use crate::files::load_job;
@@ -39,7 +40,7 @@ pub fn watch_script<R: Threads + Wait + Sync, F: Folder, G: Gate>(
     folder: &mut F,
     gate: &G,
 ) -> Result<Vec<u8>, Early>
-    ensures { Owes F.files F.rest F.faults folder.old folder.new result (due_of_played (Watch mesh.now script.now)) }
+    ensures { Owes F.files F.rest F.faults F.opened (most_of_job (F.files folder.old) mesh.now) folder.old folder.new result (due_of_played (Watch mesh.now script.now)) }
 {
     let job = load_job(alloc, mesh, script, folder)?;
     Ok(played_watches(rt, alloc, job, gate)?)

@@ -110,6 +110,38 @@ fn answers(rt: HostRuntime) -> Result<(), Fail> {
     Ok(())
 }
 
+// The words, and the rings that are written of a cell that was split twice.
+const RINGS: [(&str, &str); 3] = [
+    (
+        "rings m.vtk 4 4 4 4 4 4 2",
+        "route walk\nring 0 count 1\n4\nring 1 count 5\n0 1 2 3 5\n4 4 4 4 4\nring 2 count 0\n",
+    ),
+    (
+        "rings m.vtk 16 0 0 16 0 0 2",
+        "route probe\nring 0 count 1\n1\nring 1 count 4\n0 2 3 4\n1 1 1 1\nring 2 count 1\n5\n0\n",
+    ),
+    (
+        "rings m.vtk 100 100 100 101 101 101 1",
+        "route scan\nring 0 count 0\nring 1 count 0\n",
+    ),
+];
+
+#[test]
+fn rings(rt: HostRuntime) -> Result<(), Fail> {
+    for (line, written) in RINGS {
+        check(
+            &rt,
+            rt.alloc(),
+            line,
+            SPLIT_TWICE.as_bytes(),
+            b"",
+            Status::Done,
+            written.as_bytes(),
+        )?;
+    }
+    Ok(())
+}
+
 // Scripts, and how they are printed in version 2. A script isn't checked on a mesh.
 const UPGRADED: [(&str, &str); 2] = [
     (

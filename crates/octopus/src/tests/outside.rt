@@ -13,7 +13,7 @@ use std::thread::Threads;
 
 // The words, how many calls on the folder they make until their files are read, and what they write. Of a file of 136
 // bytes there are the selection, 20 reads of at most 7 bytes, and the read at the end; of one of 88 bytes 13 reads.
-const CALLS: [(&str, u64, &str); 6] = [
+const CALLS: [(&str, u64, &str); 7] = [
     ("scan m.vtk 0 0 0 4 0 0", 22, "count 2\n0 1\n"),
     ("surface m.vtk", 22, "count 4\n0 1 2 3\n"),
     ("box m.vtk 0 0 0 4 0 0", 22, "route probe\ncount 2\n0 1\n"),
@@ -22,9 +22,17 @@ const CALLS: [(&str, u64, &str); 6] = [
         22,
         "route probe\ncount 1\n0\n",
     ),
+    (
+        "rings m.vtk 0 0 0 4 0 0 1",
+        22,
+        "route probe\nring 0 count 2\n0 1\nring 1 count 2\n2 3\n0 0\n",
+    ),
     ("step m.vtk s.txt 3", 37, MOVED_THRICE),
     ("upgrade s.txt", 15, THREE_SHIFTS_2),
 ];
+
+// The commands that play a job, and how many calls they make until their files are read. What they write differs from run to run.
+const PLAYED_CALLS: [(&str, u64); 2] = [("run m.vtk s.txt", 37), ("watch m.vtk s.txt", 37)];
 
 // Runs the words where these calls on the folder and on the sink fail.
 fn run_failing(
@@ -61,6 +69,13 @@ fn each_read_fails_in_turn(rt: HostRuntime) -> Result<(), Fail> {
         let (status, written) = run_failing(&rt, alloc, line, &[calls], &[])?;
         assert_eq!(rt; status, Status::Done, "`{line}`");
         assert_eq!(rt; written.as_slice(), text.as_bytes(), "`{line}`");
+    }
+    for (line, calls) in PLAYED_CALLS {
+        for call in 0..calls {
+            check_read(&rt, alloc, line, call)?;
+        }
+        let (status, _) = run_failing(&rt, alloc, line, &[calls], &[])?;
+        assert_eq!(rt; status, Status::Done, "`{line}`");
     }
     Ok(())
 }

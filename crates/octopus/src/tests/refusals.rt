@@ -10,7 +10,7 @@ use std::alloc::Global;
 use std::test::Fail;
 
 // Words without a form.
-const USAGE: [&str; 16] = [
+const USAGE: [&str; 19] = [
     "",
     "scan m.vtk 4 0 0 0 0 0",
     "scan m.vtk 0 0 0 4 0 1073741825",
@@ -20,6 +20,9 @@ const USAGE: [&str; 16] = [
     "cells m.vtk 0 0 0 4 0 0",
     "cells m.vtk 0 0 0 4 0 0 any",
     "cells m.vtk 4 0 0 0 0 0 all",
+    "rings m.vtk 0 0 0 4 0 0",
+    "rings m.vtk 0 0 0 4 0 0 1001",
+    "rings m.vtk 0 0 0 4 0 0 +1",
     "watch m.vtk",
     "gen 0",
     "gen 88",
