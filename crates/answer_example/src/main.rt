@@ -1,12 +1,16 @@
 //! The library by example: reads a mesh text, makes its one step and answers a box.
 #![tactic(auto)]
 
+ghost use Rattle.std.specs.Prelude.{◌≡◌, IfOk};
+ghost use Rattle.mesh_base.specs.Query.{answer};
+
 use anyhow::{Context, Result};
 use box_crawl::Marks;
 use box_query::answer_plain;
 use job_steps::first_step;
-use mesh_base::{BoxQ, Point};
+use mesh_base::{BoxQ, Mesh, NoMemory, Point, VertexList};
 use run_script::Job;
+use std::alloc::Global;
 use std::sync::Arc;
 use vtk_legacy::read_mesh;
 
@@ -28,14 +32,22 @@ fn edge_box() -> Option<BoxQ> {
     BoxQ::new(Point::new(0, 0, 0)?, Point::new(4, 0, 0)?)
 }
 
-fn main(rt: HostRuntime) -> Result<()> {
-    let alloc = rt.alloc();
-    let mesh = read_mesh(alloc, MESH)?;
+/// The vertices that the surface of the mesh, a walk or a scan leads to inside the box.
+#[tactic(auto, unfolding(run_script::specs::Jobs::step_at))]
+fn vertices_inside(alloc: Global, mesh: Mesh, area: &BoxQ) -> Result<VertexList, NoMemory>
+    ensures { IfOk result (λ vertices. vertices ≡ answer mesh area.now) }
+{
     let job = Arc::new(alloc, Job::still(alloc, mesh))?;
     let (step, _maker) = first_step(alloc, job)?;
-    let area = edge_box().context("no box")?;
     let mut marks = Marks::new(alloc, step.points())?;
-    let (_route, inside) = answer_plain(alloc, &step, &area, &mut marks)?;
+    let (_route, vertices) = answer_plain(alloc, &step, area, &mut marks)?;
+    Ok(vertices)
+}
+
+fn main(rt: HostRuntime) -> Result<()> {
+    let mesh = read_mesh(rt.alloc(), MESH)?;
+    let area = edge_box().context("no box")?;
+    let inside = vertices_inside(rt.alloc(), mesh, &area)?;
     println!(rt; "{:?}", inside.items())?;
     Ok(())
 }
