@@ -78,8 +78,9 @@ def main() -> None:
         timed([got.program, "gen", str(cubes)], block)
         mixed = folder / "mixed.vtk"
         apart(at_random, block, mixed)
-        end = str(4 * cubes)
-        commands = [["scan", "MESH", "0", "0", "0", end, end, end], ["surface", "MESH"], ["box", "MESH", "0", "0", "0", end, end, end]]
+        end, half = str(4 * cubes), str(8 * cubes)
+        corner, middle = ["MESH", "0", "0", "0", end, end, end], ["MESH", "0", "0", "0", half, half, half]
+        commands = [["scan", *corner], ["surface", "MESH"], ["box", *corner], ["cells", *middle, "some"], ["rings", *middle, "2"]]
         made = {"step 0": script(1, 0, "stay", 6 * cubes**3), "10 of one split": script(10, 1, "stay", 6 * cubes**3),
                 "10 of 100 splits": script(10, 100, "stay", 6 * cubes**3), "10 of relax": script(10, 1, "relax", 6 * cubes**3),
                 "10 of shake": script(10, 1, "shake 7 3", 6 * cubes**3)}

@@ -1,5 +1,6 @@
 // Whole commands in C++, for meshes and scripts that are accepted: the same files in, the same text out.
-// peer scan|surface|box MESH [x0 y0 z0 x1 y1 z1] | peer step MESH SCRIPT K | peer run MESH SCRIPT
+// peer scan|surface|box MESH [x0 y0 z0 x1 y1 z1] | peer cells MESH x0 y0 z0 x1 y1 z1 all|some | peer rings MESH x0 y0 z0 x1 y1 z1 H
+// peer step MESH SCRIPT K | peer run MESH SCRIPT
 // `run` makes all steps, with surface and neighbours of each that has a box, and answers each box of the script on the last step.
 #include <algorithm>
 #include <array>
@@ -216,14 +217,61 @@ static void put(std::string &out, long value) {
     out.append(digits, size_t(std::snprintf(digits, sizeof digits, "%ld", value)));
 }
 
+// The numbers of a list in one line, and nothing of an empty list.
+static void put_line(std::string &out, const std::vector<uint32_t> &list) {
+    for (size_t k = 0; k < list.size(); k++) {
+        put(out, list[k]);
+        out += k + 1 == list.size() ? '\n' : ' ';
+    }
+}
+
 static void put_list(std::string &out, const std::vector<uint32_t> &list) {
     out += "count ";
     put(out, long(list.size()));
-    for (size_t k = 0; k < list.size(); k++) {
-        out += k == 0 ? '\n' : ' ';
-        put(out, list[k]);
-    }
     out += '\n';
+    put_line(out, list);
+}
+
+// The cells with all corners, or at least one, among these vertices, which `marks` has by 1.
+static std::vector<uint32_t> cells_of(const Mesh &mesh, const std::vector<uint32_t> &found, const std::vector<uint32_t> &marks, bool all) {
+    std::vector<uint32_t> begin, list = mesh.at_points(begin), cells;
+    for (uint32_t v : found)
+        for (uint32_t k = begin[v]; k < begin[v + 1]; k++) {
+            const Cell &cell = mesh.cells[list[k]];
+            if (!all || std::all_of(cell.begin(), cell.end(), [&](uint32_t w) { return marks[w] == 1; })) cells.push_back(list[k]);
+        }
+    std::sort(cells.begin(), cells.end());
+    cells.erase(std::unique(cells.begin(), cells.end()), cells.end());
+    return cells;
+}
+
+// The vertices of each least number of edges from these, and for each its least neighbour one edge nearer.
+static void put_rings(std::string &out, const Mesh &mesh, std::vector<uint32_t> ring, long most) {
+    std::vector<uint32_t> from(mesh.points.size(), GONE);
+    for (uint32_t v : ring) from[v] = v;
+    for (long n = 0; n <= most; n++) {
+        out += "ring ";
+        put(out, n);
+        out += " count ";
+        put(out, long(ring.size()));
+        out += '\n';
+        put_line(out, ring);
+        std::vector<uint32_t> sources, next;
+        if (n > 0) {
+            for (uint32_t v : ring) sources.push_back(from[v]);
+            put_line(out, sources);
+        }
+        for (uint32_t v : ring)
+            for (size_t k = mesh.starts[v]; k < mesh.starts[v + 1]; k++) {
+                const uint32_t w = mesh.near[k];
+                if (from[w] == GONE) {
+                    from[w] = v;
+                    next.push_back(w);
+                }
+            }
+        std::sort(next.begin(), next.end());
+        ring = std::move(next);
+    }
 }
 
 static long floor_of(long a, long b) { return a / b - (a % b < 0); }
@@ -368,7 +416,9 @@ int main(int count, char **args) {
             const char *route;
             std::vector<uint32_t> found = answer(mesh, box, marks, 1, route);
             out += std::string("route ") + route + "\n";
-            put_list(out, found);
+            if (command == "cells") put_list(out, cells_of(mesh, found, marks, std::strcmp(args[9], "all") == 0));
+            else if (command == "rings") put_rings(out, mesh, found, std::atol(args[9]));
+            else put_list(out, found);
         }
     }
     std::fwrite(out.data(), 1, out.size(), stdout);

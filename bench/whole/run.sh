@@ -1,5 +1,5 @@
 #!/bin/sh
-# Whole commands beside C++, in one run: processor seconds and peak memory of scan, surface, box and step on blocks of cubes, and on
+# Whole commands beside C++, in one run: processor seconds and peak memory of scan, surface, box, cells, rings and step on blocks of cubes, and on
 # the same blocks with points and cells numbered at random. Both programs read the same files, and their outputs have to be equal.
 # Usage: bench/whole/run.sh [-r ROUNDS] [CUBES..]      (needs the program that the gate built, and python3)
 set -eu
