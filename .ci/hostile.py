@@ -95,6 +95,34 @@ def little_memory(program: str, folder: pathlib.Path) -> None:
             wants(program, folder, words, {0: b"", 3: b""}, f"{mib} MiB", mib * 2**20)
 
 
+def mesh_text(points: list[tuple[int, int, int]], cells: list[tuple[int, ...]]) -> str:
+    lines = ["# vtk DataFile Version 3.0", "awkward", "ASCII", "DATASET UNSTRUCTURED_GRID", f"POINTS {len(points)} int"]
+    lines += [" ".join(map(str, point)) for point in points]
+    lines += [f"CELLS {len(cells)} {5 * len(cells)}", *(" ".join(map(str, (4, *cell))) for cell in cells)]
+    return "\n".join([*lines, f"CELL_TYPES {len(cells)}", *["10"] * len(cells)]) + "\n"
+
+
+def awkward(program: str, folder: pathlib.Path) -> None:
+    """Runs on a star, whose middle has a thousand neighbours, on a thousand parts that nothing joins, and on a mesh without a surface."""
+    star = mesh_text([(0, 0, 0), (0, 0, 10), *((i, 0, 0) for i in range(2, 1002))], [(0, 1, i, i + 1) for i in range(2, 1001)])
+    corners = [(0, 0, 0), (4, 0, 0), (0, 4, 0), (0, 0, 4)]
+    parts = mesh_text(
+        [(100 * i + x, y, z) for i in range(1000) for x, y, z in corners], [tuple(range(4 * i, 4 * i + 4)) for i in range(1000)]
+    )
+    closed = mesh_text([*corners, (1, 1, 1)], [(0, 1, 2, 3), (0, 1, 2, 4), (0, 1, 3, 4), (0, 2, 3, 4), (1, 2, 3, 4)])
+    ends = [v for i in range(1000) for v in (4 * i, 4 * i + 1)]
+    for mesh, box, route, found in [
+        (star, "0 0 0 1001 0 10", "probe", list(range(1002))),
+        (parts, "0 0 0 100000 0 0", "probe", ends),
+        (closed, "0 0 0 1 1 1", "scan", [0, 4]),
+    ]:
+        (folder / "awkward.vtk").write_text(mesh)
+        (folder / "awkward.txt").write_text(f"octopus script 1\nstay\nsession\nwait 1\nbox {box}\nend\n")
+        due = f"octopus report 1\nsteps 1\nsessions 1\nsession 0 boxes 1\nbox 0 step 1 route {route} count {len(found)}\n"
+        due += " ".join(map(str, found)) + "\njournal 4\n"
+        wants(program, folder, ["run", "awkward.vtk", "awkward.txt"], {0: due.encode()}, f"box {box} of an awkward mesh")
+
+
 def side_by_side(program: str, folder: pathlib.Path) -> None:
     """Four runs at once give the same answers as one."""
     words = ["step", "block.vtk", "script.txt", "2"]
@@ -112,7 +140,7 @@ def main() -> int:
     program = str(pathlib.Path(sys.argv[1]).resolve())
     with tempfile.TemporaryDirectory() as name:
         folder = pathlib.Path(name)
-        for part in (cut_short, lying_counts, little_memory, side_by_side):
+        for part in (cut_short, lying_counts, awkward, little_memory, side_by_side):
             part(program, folder)
     for fault in faults:
         print(f"hostile: {fault}")

@@ -27,6 +27,7 @@ COUNTERS = {
 
 WORD = re.compile(r"[^\s(){}\[\],;.\"`]+")
 HEAD = re.compile(r"^(?:pub )?(?:(?:abbrev|unfoldable|opaque|record|data|instance) )*(?:pub )?(\S+)(?: [({][^=]*[)}])* :")
+RECORD = re.compile(r"^(?:pub )?record (\S+) [({]")  # its head may go on in the next line
 
 
 def blocks(path: pathlib.Path) -> list[tuple[str, str]]:
@@ -38,7 +39,7 @@ def blocks(path: pathlib.Path) -> list[tuple[str, str]]:
             continue
         if not line.startswith(" "):
             margin = "  " if line.startswith("module ") else ""
-        head = HEAD.match(line.removeprefix(margin))
+        head = HEAD.match(line.removeprefix(margin)) or RECORD.match(line.removeprefix(margin))
         if head and not line.removeprefix(margin).startswith(" "):
             found.append([head.group(1), line.strip()])
         elif found:

@@ -6,6 +6,8 @@ Usage: .ci/statuses.py PROGRAM
 import os
 import pathlib
 import re
+import resource
+import signal
 import subprocess
 import sys
 import tempfile
@@ -94,7 +96,7 @@ def main() -> int:
             right = text == out if isinstance(text, str) else text.fullmatch(out) is not None
             if run.returncode != status or not right or run.stderr:
                 faults.append(f"octopus {shown(words)}: status {run.returncode} with {out[:80]!r}, due are {status} and {text!r}")
-        count = len(listed) + ends_of_output(program, folder, faults)
+        count = len(listed) + ends_of_output(program, folder, faults) + short_writes(program, folder, faults)
     for fault in faults:
         print(f"statuses: {fault}")
     print(f"statuses: {count} command lines, {len(faults)} faults")
@@ -119,6 +121,24 @@ def ends_of_output(program: str, folder: pathlib.Path, faults: list[str]) -> int
             if run.returncode != 5:
                 faults.append(f"octopus {shown(words)} into {what}: status {run.returncode}, due is 5")
     return count
+
+
+def short_writes(program: str, folder: pathlib.Path, faults: list[str]) -> int:
+    """A file that takes so many bytes and no more: a write takes a part of its piece, and the next one fails. The status is 5, and
+    the file has the front of the text."""
+    whole = subprocess.run([program, "gen", "20"], stdin=subprocess.DEVNULL, capture_output=True, check=False).stdout
+    limits = [1, 1000, 65536, 100_000]
+    for most in limits:
+
+        def limit(most: int = most) -> None:
+            signal.signal(signal.SIGXFSZ, signal.SIG_IGN)
+            resource.setrlimit(resource.RLIMIT_FSIZE, (most, most))
+
+        with open(folder / "part", "wb") as part:
+            run = subprocess.run([program, "gen", "20"], stdin=subprocess.DEVNULL, stdout=part, preexec_fn=limit, check=False)
+        if run.returncode != 5 or (folder / "part").read_bytes() != whole[:most]:
+            faults.append(f"octopus gen 20 into a file of at most {most} bytes: status {run.returncode}, due is 5 with the front of the text")
+    return len(limits)
 
 
 def closed_pipe() -> int:
