@@ -1,12 +1,12 @@
 #!/bin/sh
-# A small run by threads, with one allocation refused each time: how it ended.
+# A small run by threads, with each of its allocations refused in turn: how it ended.
 #
-# usage: bench/table/refused.sh [NUMBER..]     (default: 1 to 70 in steps of 3)
+# usage: bench/table/refused.sh
 #
-# For each number N it prints what `rt try --fail-alloc N` says of a program that plays a job of three steps and three
-# sessions: `whole`, `cut short` (the plan is closed, one step is held, the journal isn't whole), or `no run`, where memory was
-# refused before the workers began. Anything else is a failure, and so is a run that does not end within its time. It needs no
-# proof, and takes some seconds for each number.
+# It writes a program that plays a job of three steps and three sessions, has it proved and built by `rt run`, and puts
+# refused/refuse.c in front of the C library. A run ends `whole`, `cut short` (the plan is closed, one step is held, the journal
+# isn't whole), or as `no run`, where memory was refused before the workers began. Any other end is printed with its number, and
+# so is a run that has not ended after a minute.
 set -eu
 here=$(cd "$(dirname "$0")" && pwd)
 . "$here/../parts.sh"
@@ -66,8 +66,18 @@ fn main(rt: HostRuntime) -> io::Result<()> {
     println!(rt; "{end}")
 }
 RT
-cd "$program"
-for number in ${*:-$(seq 1 3 70)}; do
-    end=$(rt try --fail-alloc "$number" 2> "$work/log" | grep -x -e 'whole' -e 'cut short' -e 'no run' -e 'wrong' || true)
-    echo "allocation $number refused: ${end:-did not end as a run may}"
+build_program
+"${CC:-cc}" -O2 -shared -fPIC -o "$work/refuse.so" "$here/../refused/refuse.c"
+number=1
+while :; do
+    rm -f "$work/reached"
+    end=$(timeout 60 env LD_PRELOAD="$work/refuse.so" REFUSE_AT=$number REFUSE_LOG="$work/reached" "$program/out/refused_run" || true)
+    [ -e "$work/reached" ] || break
+    case $end in
+    whole | "cut short" | "no run") echo "$end" >> "$work/ends" ;;
+    *) echo "allocation $number refused: ${end:-did not end as a run may}" ;;
+    esac
+    number=$((number + 1))
 done
+echo "$((number - 1)) allocations refused:"
+sort "$work/ends" | uniq -c
