@@ -5,7 +5,7 @@ use Rattle.std.proofs.lemmas.List.{get_or-take, get_or_past, length-take-le}
 use Rattle.mesh_base.specs.Mesh.{is_vertex}
 use Rattle.mesh_base.proofs.AnswerLaws.{any_from}
 use Rattle.std.proofs.lemmas.Bool.Decides.{nat_tests}
-use Rattle.std.proofs.lemmas.List.{get_or_default, take_more}
+use Rattle.std.proofs.lemmas.List.{get_or_default}
 use Rattle.std.proofs.lemmas.List.Sums.{sum_by-append, sum_by-cons, count_by-le-length}
 use Rattle.std.specs.List.{list_any, range_with_len}
 use Rattle.mesh_base.specs.Numbers.{IsListOf}
@@ -18,6 +18,9 @@ use Rattle.edge_table.proofs.RowLemmas.{number_at-some, number_at-place}
 
 pub cell_pairs-push : (cells : List (Option Corners)) (c : Corners) (v w : ℕ) → cell_pairs (cells ++ Some c ∷ []) v w ≡ cell_pairs cells v w + pair_share c v w
 cell_pairs-push cells c v w = ap (sum_by (λ k. pair_share k v w)) (live-append cells (Some c ∷ [])) ∙ sum_by-append (λ k. pair_share k v w) (live cells) (c ∷ []) ∙ omega arith
+
+pub cell_pairs-append : (xs ys : List (Option Corners)) (v w : ℕ) → cell_pairs (xs ++ ys) v w ≡ cell_pairs xs v w + cell_pairs ys v w
+cell_pairs-append xs ys v w = ap (sum_by (λ k. pair_share k v w)) (live-append xs ys) ∙ sum_by-append (λ k. pair_share k v w) (live xs) (live ys)
 
 pub cell_pairs-set : (cells : List (Option Corners)) (i : ℕ) (c : Corners) (v w : ℕ) → cell_at cells i ≡ Some c → cell_pairs (set cells i None) v w + pair_share c v w ≡ cell_pairs cells v w
 cell_pairs-set [] i c v w h = absurd (cc)
@@ -104,7 +107,7 @@ pair_count-within rows v w lt = elim (cases_lt v (length rows)) [ inl l ↦ l | 
     past e = omega arith
 
 -- so the neighbours of a point are points
-neighbour_within : (cells : List (Option Corners)) (rows : List RowView) (v w : ℕ) → IsPairsOf cells rows → 0 < pair_count rows v w → w < length rows
+pub neighbour_within : (cells : List (Option Corners)) (rows : List RowView) (v w : ℕ) → IsPairsOf cells rows → 0 < pair_count rows v w → w < length rows
 neighbour_within cells rows v w pairs lt = pair_count-within rows w v (omega (arith, pairs v w, pairs w v, shares-sym (live cells) v w))
 
 pub neighbours_are : (cells : List (Option Corners)) (rows : List RowView) (v : ℕ) (vs : List ℕ) → IsPairsOf cells rows
@@ -135,14 +138,6 @@ length-live (Some c ∷ cells) = omega (arith, length-live cells)
 
 pub cell_pairs-le : (cells : List (Option Corners)) (v w : ℕ) → cell_pairs cells v w ≤ length cells
 cell_pairs-le cells v w = omega (arith, length-live cells, count_by-le-length (λ c. not (eqb v w) && (has_corner c v && has_corner c w)) (live cells))
-
-pub cell_pairs-more : (cells : List (Option Corners)) (i : ℕ) (cell : Option Corners) (v w : ℕ) → i < length cells → get_or cells i cell ≡ cell
-    → cell_pairs (take (i + 1) cells) v w ≡ cell_pairs (take i cells) v w + cell_pairs (cell ∷ []) v w
-cell_pairs-more cells i cell v w lt e =
-    ap (λ l. cell_pairs l v w) (take_more cells i cell lt)
-    ∙ ap (sum_by (λ k. pair_share k v w)) (live-append (take i cells) (get_or cells i cell ∷ []))
-    ∙ sum_by-append (λ k. pair_share k v w) (live (take i cells)) (live (get_or cells i cell ∷ []))
-    ∙ ap (λ k. cell_pairs (take i cells) v w + cell_pairs (k ∷ []) v w) e
 
 and_left : (a b : Bool) → (a && b) ≡ true → a ≡ true
 and_left true b h = refl

@@ -119,13 +119,13 @@ same_at xs ns w u e = let q : w ≡ u = grind (arith, nat_tests) in ap (number_a
 pub number_of : (xs ns : List ℕ) (i w : ℕ) → IsRow xs ns → i < length xs → get_or xs i 0 ≡ w → number_at xs ns w ≡ get_or ns i 0
 number_of xs ns i w r lt e = sym (ap (number_at xs ns) e) ∙ number_at-place xs ns i (Asc-from_increasing xs r.ascending) r.even lt
 
-pub more_there : (xs ns : List ℕ) (i w u : ℕ) → IsRow xs ns → i < length xs → get_or xs i 0 ≡ w
-    → number_at xs (set ns i (get_or ns i 0 + 1)) u ≡ number_at xs ns u + cond (eqb w u) 1 0
-more_there xs ns i w u r lt e =
-    number_at-set xs ns i (get_or ns i 0 + 1) u (Asc-from_increasing xs r.ascending) r.even lt
-    ∙ ap (λ k. cond (eqb k u) (get_or ns i 0 + 1) (number_at xs ns u)) e ∙ by (eqb w u) refl
+pub more_there : (xs ns : List ℕ) (i w n u : ℕ) → IsRow xs ns → i < length xs → get_or xs i 0 ≡ w
+    → number_at xs (set ns i (get_or ns i 0 + n)) u ≡ number_at xs ns u + cond (eqb w u) n 0
+more_there xs ns i w n u r lt e =
+    number_at-set xs ns i (get_or ns i 0 + n) u (Asc-from_increasing xs r.ascending) r.even lt
+    ∙ ap (λ k. cond (eqb k u) (get_or ns i 0 + n) (number_at xs ns u)) e ∙ by (eqb w u) refl
   where
-    by : (b : Bool) → eqb w u ≡ b → cond b (get_or ns i 0 + 1) (number_at xs ns u) ≡ number_at xs ns u + cond b 1 0
+    by : (b : Bool) → eqb w u ≡ b → cond b (get_or ns i 0 + n) (number_at xs ns u) ≡ number_at xs ns u + cond b n 0
     by true q = let s = same_at xs ns w u q in let t = number_of xs ns i w r lt e in omega arith
     by false q = omega arith
 
@@ -147,10 +147,21 @@ less_out xs ns i w u r lt e m =
     by true q = let s = same_at xs ns w u q in let t = number_of xs ns i w r lt e in omega arith
     by false q = omega arith
 
-pub more_in : (xs ns : List ℕ) (i w u : ℕ) → IsRow xs ns → IsPlaceOf w xs i
-    → number_at (insert xs i w) (insert ns i 1) u ≡ number_at xs ns u + cond (eqb w u) 1 0
-more_in xs ns i w u r p = number_at-insert xs ns i w 1 u (not_in w xs i p) r.even p.within ∙ by (eqb w u) refl
+pub more_in : (xs ns : List ℕ) (i w n u : ℕ) → IsRow xs ns → IsPlaceOf w xs i
+    → number_at (insert xs i w) (insert ns i n) u ≡ number_at xs ns u + cond (eqb w u) n 0
+more_in xs ns i w n u r p = number_at-insert xs ns i w n u (not_in w xs i p) r.even p.within ∙ by (eqb w u) refl
   where
-    by : (b : Bool) → eqb w u ≡ b → cond b 1 (number_at xs ns u) ≡ number_at xs ns u + cond b 1 0
+    by : (b : Bool) → eqb w u ≡ b → cond b n (number_at xs ns u) ≡ number_at xs ns u + cond b n 0
     by true q = let s = same_at xs ns w u q in let t = number_at-absent xs ns w (not_in w xs i p) in omega arith
     by false q = omega arith
+
+-- a number greater than each that a row lists belongs at its end
+pub place_last : (xs ns : List ℕ) (w : ℕ) → IsRow xs ns → ((u : ℕ) → 0 < number_at xs ns u → u < w) → IsPlaceOf w xs (length xs)
+place_last xs ns w r last = record {
+  within = omega arith;
+  before = λ k lt.
+      let at = number_at-place xs ns k (Asc-from_increasing xs r.ascending) r.even lt in
+      let some = r.some k 0 (let q = r.even in omega arith) in
+      last (get_or xs k 0) (omega arith);
+  after = λ k le lt. absurd (omega arith);
+}

@@ -1,7 +1,7 @@
 -- the rows after one of them changed
-use Rattle.std.proofs.Common.{◌≡◌, ◌≢◌, ℕ, zero, suc, ◌+◌, ◌<◌, ◌≤◌, cond, eqb, Bool, true, false, not, ◌&&◌, List, [], ◌∷◌, length, get_or, set, take, slice_get, Some, refl, sym, ap, subst, ◌∙◌, arith}
+use Rattle.std.proofs.Common.{◌≡◌, ◌≢◌, ℕ, zero, suc, ◌+◌, ◌<◌, ◌≤◌, cond, eqb, Bool, true, false, not, ◌&&◌, List, [], ◌∷◌, ◌++◌, length, length-append, get_or, set, take, slice_get, Some, refl, sym, ap, subst, ◌∙◌, arith}
 use Rattle.std.proofs.lemmas.List.{map-set, get_or-set_same, get_or-set_other, get_or-map}
-use Rattle.std.proofs.lemmas.List.Elements.{All-set}
+use Rattle.std.proofs.lemmas.List.Elements.{All-set, All-push}
 use Rattle.std.specs.Option.{IfSome}
 use Rattle.smallvec.specs.SmallVec.{HasRoomFor}
 use Rattle.edge_table.specs.Pairs.{RowView, number_at, pair_count, pair_share, IsRow}
@@ -45,17 +45,20 @@ slice_get-same (y ∷ ys) zero x lt = refl
 slice_get-same (y ∷ ys) (suc v) x lt = slice_get-same ys v x (omega arith)
 
 -- the room at the other rows stays
-pub HasRoomAt-set_other : (rows : List Row) (v w : ℕ) (r : Row) → w ≢ v → HasRoomAt rows w → HasRoomAt (set rows v r) w
-HasRoomAt-set_other rows v w r n h = subst (λ o. IfSome o (λ q. HasRoomFor q.near 3 × HasRoomFor q.counts 3)) (sym (slice_get-other rows v w r n)) h
+abbrev pub HasRoomIn : ℕ → Row → Type 0
+HasRoomIn more r = HasRoomFor r.near more × HasRoomFor r.counts more
 
-pub HasRoomAt-set_same : (rows : List Row) (v : ℕ) (r : Row) → v < length rows → HasRoomFor r.near 3 × HasRoomFor r.counts 3 → HasRoomAt (set rows v r) v
-HasRoomAt-set_same rows v r lt h = subst (λ o. IfSome o (λ q. HasRoomFor q.near 3 × HasRoomFor q.counts 3)) (sym (slice_get-same rows v r lt)) h
+pub HasRoomAt-set_other : (more : ℕ) (rows : List Row) (v w : ℕ) (r : Row) → w ≢ v → HasRoomAt more rows w → HasRoomAt more (set rows v r) w
+HasRoomAt-set_other more rows v w r n h = subst (λ o. IfSome o (HasRoomIn more)) (sym (slice_get-other rows v w r n)) h
+
+pub HasRoomAt-set_same : (more : ℕ) (rows : List Row) (v : ℕ) (r : Row) → v < length rows → HasRoomIn more r → HasRoomAt more (set rows v r) v
+HasRoomAt-set_same more rows v r lt h = subst (λ o. IfSome o (HasRoomIn more)) (sym (slice_get-same rows v r lt)) h
 
 -- the row at v, as `slice_get` has it
-pub room_of : (rows : List Row) (v : ℕ) (r : Row) → v < length rows → r ≡ get_or rows v r → HasRoomAt rows v → HasRoomFor r.near 3 × HasRoomFor r.counts 3
-room_of [] v r lt e h = absurd (omega arith)
-room_of (q ∷ rows) zero r lt e h = subst (λ q. HasRoomFor q.near 3 × HasRoomFor q.counts 3) (sym e) h
-room_of (q ∷ rows) (suc v) r lt e h = room_of rows v r (omega arith) e h
+pub room_of : (more : ℕ) (rows : List Row) (v : ℕ) (r : Row) → v < length rows → r ≡ get_or rows v r → HasRoomAt more rows v → HasRoomIn more r
+room_of more [] v r lt e h = absurd (omega arith)
+room_of more (q ∷ rows) zero r lt e h = subst (HasRoomIn more) (sym e) h
+room_of more (q ∷ rows) (suc v) r lt e h = room_of more rows v r (omega arith) e h
 
 pub shown-set_same : (rows : List Row) (v : ℕ) (r q : Row) → q ≡ get_or rows v q → r.near.items ≡ q.near.items → r.counts.items ≡ q.counts.items → shown (set rows v r) ≡ shown rows
 shown-set_same [] v r q e f g = refl
@@ -63,16 +66,16 @@ shown-set_same (p ∷ rows) zero r q e f g = ap (λ h. h ∷ shown rows) (λ i. 
 shown-set_same (p ∷ rows) (suc v) r q e f g = ap (λ l. view p ∷ l) (shown-set_same rows v r q e f g)
 
 -- what a cell adds at each of its corners, and elsewhere
-share-0 : (k : Corners) (u : ℕ) → AreDifferent k → (cond (eqb k.1 u) 1 0 + cond (eqb k.2 u) 1 0) + cond (eqb k.3 u) 1 0 ≡ pair_share k k.0 u
+pub share-0 : (k : Corners) (u : ℕ) → AreDifferent k → (cond (eqb k.1 u) 1 0 + cond (eqb k.2 u) 1 0) + cond (eqb k.3 u) 1 0 ≡ pair_share k k.0 u
 share-0 k u d = grind (arith, nat_tests)
 
-share-1 : (k : Corners) (u : ℕ) → AreDifferent k → (cond (eqb k.0 u) 1 0 + cond (eqb k.2 u) 1 0) + cond (eqb k.3 u) 1 0 ≡ pair_share k k.1 u
+pub share-1 : (k : Corners) (u : ℕ) → AreDifferent k → (cond (eqb k.0 u) 1 0 + cond (eqb k.2 u) 1 0) + cond (eqb k.3 u) 1 0 ≡ pair_share k k.1 u
 share-1 k u d = grind (arith, nat_tests)
 
-share-2 : (k : Corners) (u : ℕ) → AreDifferent k → (cond (eqb k.0 u) 1 0 + cond (eqb k.1 u) 1 0) + cond (eqb k.3 u) 1 0 ≡ pair_share k k.2 u
+pub share-2 : (k : Corners) (u : ℕ) → AreDifferent k → (cond (eqb k.0 u) 1 0 + cond (eqb k.1 u) 1 0) + cond (eqb k.3 u) 1 0 ≡ pair_share k k.2 u
 share-2 k u d = grind (arith, nat_tests)
 
-share-3 : (k : Corners) (u : ℕ) → AreDifferent k → (cond (eqb k.0 u) 1 0 + cond (eqb k.1 u) 1 0) + cond (eqb k.2 u) 1 0 ≡ pair_share k k.3 u
+pub share-3 : (k : Corners) (u : ℕ) → AreDifferent k → (cond (eqb k.0 u) 1 0 + cond (eqb k.1 u) 1 0) + cond (eqb k.2 u) 1 0 ≡ pair_share k k.3 u
 share-3 k u d = grind (arith, nat_tests)
 
 -- the same of the corners as an array has them
@@ -128,3 +131,24 @@ pub shown-take : (n : ℕ) (rows : List Row) → shown (take n rows) ≡ take n 
 shown-take zero rows = refl
 shown-take (suc n) [] = refl
 shown-take (suc n) (r ∷ rows) = ap (λ l. view r ∷ l) (shown-take n rows)
+
+-- one more row at the end
+pub pair_count-push_row : (rows : List Row) (r : Row) (u : ℕ) → pair_count (shown (rows ++ r ∷ [])) (length rows) u ≡ number_at r.near.items r.counts.items u
+pair_count-push_row [] r u = refl
+pair_count-push_row (q ∷ rows) r u = pair_count-push_row rows r u
+
+pub pair_count-push_other : (rows : List Row) (r : Row) (v u : ℕ) → v ≢ length rows → pair_count (shown (rows ++ r ∷ [])) v u ≡ pair_count (shown rows) v u
+pair_count-push_other [] r zero u n = absurd (n refl)
+pair_count-push_other [] r (suc v) u n = refl
+pair_count-push_other (q ∷ rows) r zero u n = refl
+pair_count-push_other (q ∷ rows) r (suc v) u n = pair_count-push_other rows r v u (λ e. n (ap suc e))
+
+shown-push : (rows : List Row) (r : Row) → shown (rows ++ r ∷ []) ≡ shown rows ++ view r ∷ []
+shown-push [] r = refl
+shown-push (q ∷ rows) r = ap (λ l. view q ∷ l) (shown-push rows r)
+
+pub AreRows-push : (rows : List Row) (r : Row) → AreRows (shown rows) → IsRow r.near.items r.counts.items → AreRows (shown (rows ++ r ∷ []))
+AreRows-push rows r a i = subst AreRows (sym (shown-push rows r)) (All-push (λ q. IsRow q.0 q.1) (shown rows) (view r) a i)
+
+pub length-push : (rows : List Row) (r : Row) → length (shown (rows ++ r ∷ [])) ≡ length (shown rows) + 1
+length-push rows r = ap length (shown-push rows r) ∙ length-append (shown rows) (view r ∷ [])

@@ -1,13 +1,14 @@
 //! The table of all points.
-ghost use Rattle.std.specs.Prelude.{◌≡◌, ℕ, List, Option, Some, None, [], ◌∷◌, ◌++◌, ◌+◌, ◌<◌, ◌≤◌, ◌-◌, false, length, take, IfOk, IfSome, filter, slice_set, OnOk, OnErr};
+ghost use Rattle.std.specs.Prelude.{◌≡◌, ℕ, List, Option, Some, None, [], ◌∷◌, ◌++◌, ◌+◌, ◌<◌, ◌≤◌, ◌-◌, false, length, take, IfOk, filter, slice_set, OnOk, OnErr};
 ghost use Rattle.std.specs.List.{range_with_len};
 ghost use Rattle.mesh_base.specs.Numbers.{IsListOf};
-ghost use Rattle.mesh_base.specs.Edit.{cell_at};
+ghost use Rattle.mesh_base.specs.Edit.{cell_at, split_cells};
 ghost use Rattle.mesh_base.specs.Mesh.{Corners, IsWithin, AreWithin, are_neighbours, is_vertex};
-ghost use Rattle.edge_table.specs.Pairs.{pair_count, pair_share, cell_pairs, IsPairsOf, HasCell, HasFreePoint, HasRoom};
+ghost use Rattle.edge_table.specs.Pairs.{pair_count, pair_share, IsPairsOf, HasCell, HasFreePoint, HasRoom};
 
-use crate::row::Row;
-use crate::table::{put_pairs, reserve_pairs, take_pairs};
+use crate::groups::count_cells;
+use crate::row::{Row, row_inside};
+use crate::table::{put_pairs, reserve_pairs, split_pairs, take_pairs};
 use mesh_base::{Cell, MOST_CELLS, NoMemory};
 use smallvec::SmallVec;
 use std::alloc::Global;
@@ -36,8 +37,10 @@ impl Model for EdgeTable {
 }
 
 impl EdgeTable {
-    /// The table of these cells, of which the absent ones count for nothing. It takes room for all points at once, and
-    /// then puts in one cell after the other.
+    /// The table of these cells, of which the absent ones count for nothing. It takes room for all points at once.
+    ///
+    /// It passes twice over the cells, and looks at each cell again for each range of points that it has corners in. It
+    /// counts the neighbours of one point after the other, and searches a row once for each.
     pub fn build(alloc: Global, points: u32, cells: &[Option<Cell>]) -> Result<EdgeTable, NoMemory>
         requires few_cells { length cells.now ≤ MOST_CELLS }
         requires within { AreWithin points cells.now }
@@ -45,9 +48,7 @@ impl EdgeTable {
         ensures cells { IfOk result (IsPairsOf cells.now) }
     {
         let mut table = EdgeTable::with_points(alloc, points)?;
-        for cell in cells {
-            table.put_live(alloc, cell)?;
-        }
+        count_cells(alloc, &mut table.rows, points, cells)?;
         Ok(table)
     }
 
@@ -63,20 +64,6 @@ impl EdgeTable {
             table.put_point(alloc)?;
         }
         Ok(table)
-    }
-
-    // Puts in the cell, if it is live.
-    fn put_live(&mut self, alloc: Global, cell: &Option<Cell>) -> Result<(), NoMemory>
-        requires room { HasRoom self.old }
-        requires within { IfSome cell.now (IsWithin (length self.old)) }
-        ensures points { length self.new ≡ length self.old }
-        ensures pairs { OnOk result ((v u : ℕ) →
-            pair_count self.new v u ≡ pair_count self.old v u + cell_pairs (cell.now ∷ []) v u) }
-    {
-        if let Some(cell) = cell {
-            self.put_cell(alloc, *cell)?;
-        }
-        Ok(())
     }
 
     /// Adds a point that no cell has, with the next number. After NoMemory the table is as it was. It takes memory only
@@ -111,7 +98,7 @@ impl EdgeTable {
             IsPairsOf cells self.old → IsPairsOf (cells ++ Some cell ∷ []) self.new) }
         ensures err { OnErr result (self.new ≡ self.old) }
     {
-        reserve_pairs(&mut self.rows, &cell)?;
+        reserve_pairs(&mut self.rows, &cell, 3)?;
         put_pairs(&mut self.rows, &cell);
         Ok(())
     }
@@ -126,6 +113,28 @@ impl EdgeTable {
             IsPairsOf cells self.old → cell_at cells i ≡ Some cell → IsPairsOf (slice_set cells i None) self.new }
     {
         take_pairs(&mut self.rows, &cell);
+    }
+
+    /// Replaces a cell that is in by the four that have a new point in place of one of its corners. The point gets the next
+    /// number. After NoMemory the table is as it was.
+    ///
+    /// It searches twelve times in lists of neighbours, and appends the point to four. It takes memory, before any change,
+    /// only where one of the four lists or the table of points has to grow.
+    pub fn split_cell(&mut self, alloc: Global, point: u32, cell: Cell) -> Result<(), NoMemory>
+        requires next { point ≡ length self.old }
+        requires room { HasRoom self.old }
+        requires there { HasCell self.old cell }
+        ensures points { OnOk result (length self.new ≡ point + 1) }
+        ensures cells { OnOk result ((cells : List (Option Corners)) (i : ℕ) →
+            IsPairsOf cells self.old → cell_at cells i ≡ Some cell → IsPairsOf (split_cells cells point i cell) self.new) }
+        ensures err { OnErr result (self.new ≡ self.old) }
+    {
+        let corners = cell.corners();
+        reserve_pairs(&mut self.rows, &cell, 1)?;
+        self.rows.reserve(1)?;
+        split_pairs(&mut self.rows, point, &cell);
+        self.rows.push_reserved(row_inside(alloc, corners));
+        Ok(())
     }
 
     /// Takes away the last point, which no cell has. It takes no memory, and costs the same for each table.

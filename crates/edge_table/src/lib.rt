@@ -7,8 +7,10 @@
 #![tactic(auto)]
 
 mod edges;
+mod groups;
 mod row;
 mod table;
+mod times;
 
 pub use edges::EdgeTable;
 

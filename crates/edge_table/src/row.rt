@@ -7,10 +7,11 @@ ghost use Rattle.edge_table.specs.Pairs.{number_at, IsRow};
 
 use mesh_base::{NoMemory, place_of};
 use smallvec::SmallVec;
+use std::alloc::Global;
 
-// How many neighbours stand in a row itself. A cell's put asks for room for three more, so a row of up to 15 takes no
-// other memory: each point inside a block of cubes has 14 neighbours.
-const INLINE: usize = 18;
+/// How many neighbours stand in a row itself. A cell's put asks for room for three more, so a row of up to 15 takes no
+/// other memory: each point inside a block of cubes has 14 neighbours.
+pub const INLINE: usize = 18;
 
 /// The neighbours of a point in ascending order, and at the same places how many live cells have both.
 #[derive(Drop)]
@@ -19,8 +20,8 @@ pub struct Row {
     pub counts: SmallVec<u32, INLINE>,
 }
 
-// Where w is among the neighbours, or where it belongs.
-fn place_in(near: &SmallVec<u32, INLINE>, w: u32) -> Result<usize, usize>
+/// Where w is among the neighbours, or where it belongs.
+pub fn place_in(near: &SmallVec<u32, INLINE>, w: u32) -> Result<usize, usize>
     requires ascending { IsStrictlyIncreasing near.now.items }
     ensures { MatchResult result
         (λ i. (i < length near.now.items) × (slice_index near.now.items i ≡ w))
@@ -29,16 +30,16 @@ fn place_in(near: &SmallVec<u32, INLINE>, w: u32) -> Result<usize, usize>
     place_of(near.as_slice(), w)
 }
 
-// The number at i.
-fn read_at(counts: &SmallVec<u32, INLINE>, i: usize) -> u32
+/// The number at i.
+pub fn read_at(counts: &SmallVec<u32, INLINE>, i: usize) -> u32
     requires { i < length counts.now.items }
     ensures { result ≡ slice_index counts.now.items i }
 {
     counts[i]
 }
 
-// Writes the number at i.
-fn write_at(counts: &mut SmallVec<u32, INLINE>, i: usize, n: u32)
+/// Writes the number at i.
+pub fn write_at(counts: &mut SmallVec<u32, INLINE>, i: usize, n: u32)
     requires { i < length counts.old.items }
     ensures items { counts.new.items ≡ slice_set counts.old.items i n }
     ensures capacity { counts.new.capacity ≡ counts.old.capacity }
@@ -46,8 +47,8 @@ fn write_at(counts: &mut SmallVec<u32, INLINE>, i: usize, n: u32)
     counts[i] = n;
 }
 
-// Puts x in at i, where there is room.
-fn insert_at(list: &mut SmallVec<u32, INLINE>, i: usize, x: u32)
+/// Puts x in at i, where there is room.
+pub fn insert_at(list: &mut SmallVec<u32, INLINE>, i: usize, x: u32)
     requires place { i ≤ length list.old.items }
     requires room { HasRoomFor list.old 1 }
     ensures items { list.new.items ≡ insert list.old.items i x }
@@ -56,31 +57,67 @@ fn insert_at(list: &mut SmallVec<u32, INLINE>, i: usize, x: u32)
     let _ = list.insert(i, x);
 }
 
-// One cell more has w.
-fn add_near(near: &mut SmallVec<u32, INLINE>, counts: &mut SmallVec<u32, INLINE>, w: u32)
+// n cells more have w.
+fn add_near(near: &mut SmallVec<u32, INLINE>, counts: &mut SmallVec<u32, INLINE>, w: u32, n: u32)
+    requires some { 0 < n }
     requires row { IsRow near.old.items counts.old.items }
     requires near_room { HasRoomFor near.old 1 }
     requires counts_room { HasRoomFor counts.old 1 }
-    requires fits { number_at near.old.items counts.old.items w + 1 < 2 ^ 32 }
+    requires fits { number_at near.old.items counts.old.items w + n < 2 ^ 32 }
     ensures row { IsRow near.new.items counts.new.items }
     ensures numbers { (u : ℕ) → number_at near.new.items counts.new.items u
-        ≡ number_at near.old.items counts.old.items u + (if nat_eq w u then 1 else 0) }
+        ≡ number_at near.old.items counts.old.items u + (if nat_eq w u then n else 0) }
     ensures near_len { length near.new.items ≤ length near.old.items + 1 }
     ensures grows { (u : ℕ) → number_at near.new.items counts.new.items u
-        ≤ number_at near.old.items counts.old.items u + 1 }
+        ≤ number_at near.old.items counts.old.items u + n }
     ensures near_capacity { near.new.capacity ≡ near.old.capacity }
     ensures counts_capacity { counts.new.capacity ≡ counts.old.capacity }
 {
     match place_in(near, w) {
         Ok(i) => {
-            let n = read_at(counts, i);
-            write_at(counts, i, n + 1);
+            let before = read_at(counts, i);
+            write_at(counts, i, before + n);
         }
         Err(i) => {
             insert_at(near, i, w);
-            insert_at(counts, i, 1);
+            insert_at(counts, i, n);
         }
     }
+}
+
+// One cell more has w, which is a neighbour.
+fn raise_near(near: &SmallVec<u32, INLINE>, counts: &mut SmallVec<u32, INLINE>, w: u32)
+    requires row { IsRow near.now.items counts.old.items }
+    requires there { 0 < number_at near.now.items counts.old.items w }
+    requires fits { number_at near.now.items counts.old.items w + 1 < 2 ^ 32 }
+    ensures row { IsRow near.now.items counts.new.items }
+    ensures numbers { (u : ℕ) → number_at near.now.items counts.new.items u
+        ≡ number_at near.now.items counts.old.items u + (if nat_eq w u then 1 else 0) }
+    ensures grows { (u : ℕ) → number_at near.now.items counts.new.items u
+        ≤ number_at near.now.items counts.old.items u + 1 }
+{
+    if let Ok(i) = place_in(near, w) {
+        let before = read_at(counts, i);
+        write_at(counts, i, before + 1);
+    }
+}
+
+// n cells have w, which is greater than each neighbour.
+fn append_near(near: &mut SmallVec<u32, INLINE>, counts: &mut SmallVec<u32, INLINE>, w: u32, n: u32)
+    requires some { 0 < n }
+    requires row { IsRow near.old.items counts.old.items }
+    requires last { (u : ℕ) → 0 < number_at near.old.items counts.old.items u → u < w }
+    requires near_room { HasRoomFor near.old 1 }
+    requires counts_room { HasRoomFor counts.old 1 }
+    ensures row { IsRow near.new.items counts.new.items }
+    ensures numbers { (u : ℕ) → number_at near.new.items counts.new.items u
+        ≡ number_at near.old.items counts.old.items u + (if nat_eq w u then n else 0) }
+    ensures grows { (u : ℕ) → number_at near.new.items counts.new.items u
+        ≤ number_at near.old.items counts.old.items u + n }
+{
+    let last = near.len();
+    insert_at(near, last, w);
+    insert_at(counts, last, n);
 }
 
 // One cell less has w.
@@ -102,17 +139,17 @@ fn drop_near(near: &mut SmallVec<u32, INLINE>, counts: &mut SmallVec<u32, INLINE
     }
 }
 
-/// Makes room for three more neighbours. What the row shows stays the same.
-pub fn reserve_three(row: &mut Row) -> Result<(), NoMemory>
+/// Makes room for so many more neighbours. What the row shows stays the same.
+pub fn reserve_more(row: &mut Row, more: usize) -> Result<(), NoMemory>
     ensures near { row.new.near.items ≡ row.old.near.items }
     ensures counts { row.new.counts.items ≡ row.old.counts.items }
     ensures near_capacity { row.old.near.capacity ≤ row.new.near.capacity }
     ensures counts_capacity { row.old.counts.capacity ≤ row.new.counts.capacity }
-    ensures near_room { OnOk result (HasRoomFor row.new.near 3) }
-    ensures counts_room { OnOk result (HasRoomFor row.new.counts 3) }
+    ensures near_room { OnOk result (HasRoomFor row.new.near more) }
+    ensures counts_room { OnOk result (HasRoomFor row.new.counts more) }
 {
-    row.near.reserve(3)?;
-    row.counts.reserve(3)
+    row.near.reserve(more)?;
+    row.counts.reserve(more)
 }
 
 /// One cell more has x, y and z beside the point.
@@ -126,9 +163,48 @@ pub fn add_three(row: &mut Row, x: u32, y: u32, z: u32)
         ≡ number_at row.old.near.items row.old.counts.items u
         + (if nat_eq x u then 1 else 0) + (if nat_eq y u then 1 else 0) + (if nat_eq z u then 1 else 0) }
 {
-    add_near(&mut row.near, &mut row.counts, x);
-    add_near(&mut row.near, &mut row.counts, y);
-    add_near(&mut row.near, &mut row.counts, z);
+    add_near(&mut row.near, &mut row.counts, x, 1);
+    add_near(&mut row.near, &mut row.counts, y, 1);
+    add_near(&mut row.near, &mut row.counts, z, 1);
+}
+
+/// The point's cell with x, y and z is split round w, which is greater than each neighbour: one cell more has each of the
+/// three beside the point, and three cells have w.
+pub fn split_three(row: &mut Row, x: u32, y: u32, z: u32, w: u32)
+    requires row { IsRow row.old.near.items row.old.counts.items }
+    requires there { (u : ℕ) → (if nat_eq x u then 1 else 0) + (if nat_eq y u then 1 else 0) + (if nat_eq z u then 1 else 0)
+        ≤ number_at row.old.near.items row.old.counts.items u }
+    requires last { (u : ℕ) → 0 < number_at row.old.near.items row.old.counts.items u → u < w }
+    requires near_room { HasRoomFor row.old.near 1 }
+    requires counts_room { HasRoomFor row.old.counts 1 }
+    requires fits { (u : ℕ) → number_at row.old.near.items row.old.counts.items u < 4000000 }
+    ensures row { IsRow row.new.near.items row.new.counts.items }
+    ensures numbers { (u : ℕ) → number_at row.new.near.items row.new.counts.items u
+        ≡ number_at row.old.near.items row.old.counts.items u
+        + (if nat_eq x u then 1 else 0) + (if nat_eq y u then 1 else 0) + (if nat_eq z u then 1 else 0)
+        + (if nat_eq w u then 3 else 0) }
+{
+    append_near(&mut row.near, &mut row.counts, w, 3);
+    raise_near(&row.near, &mut row.counts, x);
+    raise_near(&row.near, &mut row.counts, y);
+    raise_near(&row.near, &mut row.counts, z);
+}
+
+/// The row of a new point round which a cell with these corners is split: three cells have each of them beside the point.
+pub fn row_inside(alloc: Global, corners: [u32; 4]) -> Row
+    ensures row { IsRow result.near.items result.counts.items }
+    ensures numbers { (u : ℕ) → number_at result.near.items result.counts.items u
+        ≡ (if nat_eq (slice_index corners 0) u then 3 else 0) + (if nat_eq (slice_index corners 1) u then 3 else 0)
+        + (if nat_eq (slice_index corners 2) u then 3 else 0) + (if nat_eq (slice_index corners 3) u then 3 else 0) }
+{
+    let [a, b, c, d] = corners;
+    let mut near = SmallVec::new(alloc);
+    let mut counts = SmallVec::new(alloc);
+    add_near(&mut near, &mut counts, a, 3);
+    add_near(&mut near, &mut counts, b, 3);
+    add_near(&mut near, &mut counts, c, 3);
+    add_near(&mut near, &mut counts, d, 3);
+    Row { near, counts }
 }
 
 /// One cell less has x, y and z beside the point.

@@ -1,6 +1,7 @@
 //! Tables beside neighbours that were worked out by hand, and beside tables that are built anew.
-ghost use Rattle.std.specs.Prelude.{◌≡◌, ◌+◌, ◌<◌, [], length, OnOk, IfOk};
+ghost use Rattle.std.specs.Prelude.{◌≡◌, ◌+◌, ◌<◌, Some, [], ◌∷◌, ◌++◌, length, OnOk, IfOk};
 ghost use Rattle.mesh_base.specs.Edit.{cell_at};
+ghost use Rattle.mesh_base.specs.Mesh.{corners_of};
 ghost use Rattle.edge_table.specs.Pairs.{IsPairsOf};
 
 use crate::EdgeTable;
@@ -70,6 +71,16 @@ fn remove(table: &mut EdgeTable, cells: &mut Vec<Option<Cell>>, i: usize) -> Res
     }
 }
 
+// Appends a cell to the list.
+fn list(cells: &mut Vec<Option<Cell>>, corners: [u32; 4]) -> Result<(), Fail>
+    ensures { OnOk result (cells.new.items ≡ cells.old.items ++ Some (corners_of corners) ∷ []) }
+{
+    let cell = Cell::new(corners).ok_or("a corner twice")?;
+    cells.reserve(1)?;
+    cells.push_reserved(Some(cell));
+    Ok(())
+}
+
 // Replaces cell i by four cells round a new point.
 fn split(
     alloc: Global,
@@ -83,13 +94,19 @@ fn split(
     ensures points { OnOk result (length table.new ≡ point + 1) }
     ensures pairs { OnOk result (IsPairsOf cells.new.items table.new) }
 {
-    let points = point.checked_add(1).ok_or("points")?;
-    table.put_point(alloc)?;
-    let [a, b, c, d] = remove(table, cells, i)?.corners();
-    append(alloc, table, points, cells, [point, b, c, d])?;
-    append(alloc, table, points, cells, [a, point, c, d])?;
-    append(alloc, table, points, cells, [a, b, point, d])?;
-    append(alloc, table, points, cells, [a, b, c, point])
+    match live_cell(cells, i) {
+        Some(cell) if i < cells.len() && cells.len() < MOST_CELLS => {
+            table.split_cell(alloc, point, cell)?;
+            cells[i] = None;
+            let [a, b, c, d] = cell.corners();
+            list(cells, [point, b, c, d])?;
+            list(cells, [a, point, c, d])?;
+            list(cells, [a, b, point, d])?;
+            list(cells, [a, b, c, point])?;
+            Ok(())
+        }
+        _ => Err(Fail::new("no cell")),
+    }
 }
 
 // A mesh with these cells, whose points lie all in one place.

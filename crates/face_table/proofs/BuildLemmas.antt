@@ -1,15 +1,15 @@
 -- lemmas on the table of a list of cells
-use Rattle.std.proofs.Common.{◌≡◌, ℕ, ◌+◌, ◌*◌, ◌<◌, ◌≤◌, Bool, true, false, ◌||◌, ltb, IfSome, refl, List, [], ◌∷◌, length, get_or, take, flat_map, filter, inl, inr, Option, Some, None, Vec, vec_capacity, sym, ap, subst, ◌∙◌, arith, length-append}
+use Rattle.std.proofs.Common.{◌≡◌, ℕ, ◌*◌, ◌<◌, ◌≤◌, Bool, true, false, ◌||◌, ltb, IfSome, refl, List, [], ◌∷◌, length, get_or, flat_map, filter, inl, inr, Option, Some, None, Vec, vec_capacity, sym, subst, arith, length-append}
 use Rattle.std.specs.declared.alloc.Global.{Global}
 use Rattle.std.specs.List.{range_with_len}
 use Rattle.std.proofs.lemmas.Bool.Decides.{nat_tests}
 use Rattle.std.proofs.lemmas.List.Elements.{All-head, All-tail}
 use Rattle.std.proofs.lemmas.Bool.{cases_lt, false≢true}
-use Rattle.std.proofs.lemmas.List.{take_more, get_or_past}
+use Rattle.std.proofs.lemmas.List.{get_or_past}
 use Rattle.std.proofs.lemmas.List.Sums.{count_by-le-length}
 use Rattle.mesh_base.specs.Mesh.{Face, Corners, IsWithin, AreWithin, has_corner, is_vertex, is_on, live, faces, face_eq, face_count}
 use Rattle.mesh_base.specs.Numbers.{IsListOf}
-use Rattle.mesh_base.proofs.FaceLaws.{face_count-append, face_vertex}
+use Rattle.mesh_base.proofs.FaceLaws.{face_vertex}
 use Rattle.mesh_base.proofs.Ascending.{IsListOf-filter_range}
 use Rattle.face_table.specs.Tally.{IsBelow, Matches}
 
@@ -21,12 +21,6 @@ length-faces (Some c ∷ cells) = omega (arith, length-faces cells, length-appen
 
 pub face_count-le : (cells : List (Option Corners)) (f : Face) → face_count cells f ≤ 4 * length cells
 face_count-le cells f = omega (arith, length-faces cells, count_by-le-length (λ g. face_eq g f) (flat_map faces (live cells)))
-
-pub face_count-more : (cells : List (Option Corners)) (i : ℕ) (cell : Option Corners) (f : Face) → i < length cells → get_or cells i cell ≡ cell
-    → face_count (take (i + 1) cells) f ≡ face_count (take i cells) f + face_count (cell ∷ []) f
-face_count-more cells i cell f lt e =
-    ap (λ l. face_count l f) (take_more cells i cell lt) ∙ face_count-append (take i cells) (get_or cells i cell ∷ []) f
-    ∙ ap (λ k. face_count (take i cells) f + face_count (k ∷ []) f) e
 
 -- the filter of the numbers that have a single face
 pub listed_below : (singles : List ℕ) (surface : Vec ℕ Global) → surface.items ≡ filter (λ w. ltb 0 (get_or singles w 0)) (range_with_len 0 (length singles)) → length singles ≤ vec_capacity surface → IsBelow (length singles) surface

@@ -221,10 +221,10 @@ tally_less es k f n h = by (face_eq k f) refl
     by false e = omega arith
 
 -- a vertex that is no corner is on none of the faces
-off_face : (a b c v : ℕ) → a ≢ v → b ≢ v → c ≢ v → is_on (face_of a b c) v ≡ false
+pub off_face : (a b c v : ℕ) → a ≢ v → b ≢ v → c ≢ v → is_on (face_of a b c) v ≡ false
 off_face a b c v x y z = grind (arith, nat_tests)
 
-no_corner : (c : Corners) (v : ℕ) → has_corner c v ≡ false → (c.0 ≢ v) × (c.1 ≢ v) × (c.2 ≢ v) × (c.3 ≢ v)
+pub no_corner : (c : Corners) (v : ℕ) → has_corner c v ≡ false → (c.0 ≢ v) × (c.1 ≢ v) × (c.2 ≢ v) × (c.3 ≢ v)
 no_corner c v h = (λ e. grind (arith, nat_tests), λ e. grind (arith, nat_tests), λ e. grind (arith, nat_tests), λ e. grind (arith, nat_tests))
 
 pub off_faces : (fs : List Face) (c : Corners) (v : ℕ) → fs ≡ faces c → has_corner c v ≡ false → (k : ℕ) (d : Face) → k < 4 → is_on (get_or fs k d) v ≡ false

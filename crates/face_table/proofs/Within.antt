@@ -35,13 +35,13 @@ own f fs = let z = ap one (face_eq-refl f) in omega (arith, z, sum_by-cons (λ g
 later : (f g : Face) (fs : List Face) → 0 < count_by (λ g. face_eq g f) fs → 0 < count_by (λ g. face_eq g f) (g ∷ fs)
 later f g fs lt = omega (arith, sum_by-cons (λ g. cond (face_eq g f) 1 0) g fs)
 
-first_on : (p q r : ℕ) → is_on (face_of p q r) p ≡ true
+pub first_on : (p q r : ℕ) → is_on (face_of p q r) p ≡ true
 first_on p q r = grind (arith, nat_tests)
 
-second_on : (p q r : ℕ) → is_on (face_of p q r) q ≡ true
+pub second_on : (p q r : ℕ) → is_on (face_of p q r) q ≡ true
 second_on p q r = grind (arith, nat_tests)
 
-third_on : (p q r : ℕ) → is_on (face_of p q r) r ≡ true
+pub third_on : (p q r : ℕ) → is_on (face_of p q r) r ≡ true
 third_on p q r = grind (arith, nat_tests)
 
 pub cell_within : (n : ℕ) (counts : Counts) (c : Corners) → AreFacesBelow n counts → ((f : Face) → count_by (λ g. face_eq g f) (faces c) ≤ tally_in counts f) → IsWithin n c

@@ -1,3 +1,4 @@
 pub mod Tally
 pub mod FaceHash
 pub mod FaceHasher
+pub mod Corner

@@ -1,8 +1,9 @@
 -- how often each face is counted, and which vertices are on a face of count one
-use Rattle.std.specs.Prelude.{◌≡◌, ℕ, ◌-◌, ◌<◌, ◌==◌, true, false, ◌&&◌, List, length, slice_index, sum_by, unwrap_or, Contains, Vec, vec_capacity, ◌↔◌, ◌≤◌, Option, Some, if◌then◌else◌}
+use Rattle.std.specs.Prelude.{◌≡◌, ℕ, ◌-◌, ◌<◌, ◌==◌, Bool, true, false, ◌&&◌, List, length, slice_index, sum_by, unwrap_or, Contains, Vec, vec_capacity, ◌↔◌, ◌≤◌, Option, Some, if◌then◌else◌}
 use Rattle.std.specs.List.Sorted.{IsStrictlyIncreasing}
 use Rattle.std.specs.Map.{lookup}
 use Rattle.std.specs.declared.alloc.Global.{Global}
+use Rattle.indexmap.specs.IndexMap.{IndexMap, spare}
 use Rattle.mesh_base.specs.Mesh.{Face, Corners, is_on, is_vertex, face_eq, face_count}
 use Rattle.mesh_base.specs.Edit.{cell_at}
 
@@ -40,10 +41,11 @@ pub record IsBelow (n : ℕ) (surface : Vec ℕ Global) : Type 0 where
 abbrev pub Matches : List ℕ → List ℕ → ℕ → Type 0
 Matches singles surface v = Contains surface v ↔ (0 < slice_index singles v)
 
--- what a table shows: the number of points, and the counts of the faces
+-- what a table shows: the number of points, the counts of the faces, and whether it has room for a split
 pub record Tally : Type 0 where
   pub points : ℕ
   pub counts : Counts
+  pub ready : Bool
 
 abbrev pub tally_of : Tally → Face → ℕ
 tally_of table f = tally_in table.counts f
@@ -58,6 +60,12 @@ pub record IsFaceTable (counts : Counts) (singles : List ℕ) (surface : Vec ℕ
   pub within : AreFacesBelow (length singles) counts
   pub below : IsBelow (length singles) surface
   pub all : (w : ℕ) → Matches singles surface.items w
+
+-- room for a point and six faces more
+pub record HasSplitRoom {S : Type 0} (counts : IndexMap Face ℕ S) (singles : Vec ℕ Global) (surface : Vec ℕ Global) : Type 0 where
+  pub faces : 6 ≤ spare counts
+  pub numbers : length singles.items < vec_capacity singles
+  pub listed : length singles.items < vec_capacity surface
 
 -- the table counts the faces of these cells
 abbrev pub IsTallyOf : List (Option Corners) → Tally → Type 0

@@ -1,13 +1,13 @@
 //! How often each face is counted: a map that has the counted faces alone, each once.
-ghost use Rattle.std.specs.Prelude.{◌≡◌, ℕ, ◌+◌, ◌^◌, ◌<◌, ◌≤◌, ◌-◌, length, [], ◌∷◌, if◌then◌else◌, IsOk, IfOk, OnOk};
+ghost use Rattle.std.specs.Prelude.{◌≡◌, ℕ, ◌+◌, ◌^◌, ◌<◌, ◌≤◌, ◌-◌, true, false, length, count_by, [], ◌∷◌, if◌then◌else◌, IsOk, IfOk, OnOk};
 ghost use Rattle.indexmap.specs.IndexMap.{spare};
-ghost use Rattle.mesh_base.specs.Mesh.{Face as PlainFace, face_eq, face_count};
+ghost use Rattle.mesh_base.specs.Edit.{quarters};
+ghost use Rattle.mesh_base.specs.Mesh.{Face as PlainFace, is_on, has_corner, faces, face_eq, face_count};
 ghost use Rattle.face_table.specs.Tally.{tally_in, single_share, single_count};
 
 use crate::hasher::FaceHasher;
 use indexmap::IndexMap;
 use mesh_base::{Cell, Face, NoMemory};
-use std::alloc::Global;
 
 /// The counted faces with their counts, of which none is 0.
 pub type Counts = IndexMap<Face, u32, FaceHasher>;
@@ -59,34 +59,30 @@ pub fn count_down(counts: &mut Counts, face: &Face) -> u32
     before
 }
 
-// Counts each face of the cell, if there is one.
-fn count_cell(counts: &mut Counts, cell: &Option<Cell>) -> Result<(), NoMemory>
-    requires fits { (f : PlainFace) → tally_in counts.old.entries f < 2 ^ 31 }
-    ensures tally { OnOk result ((f : PlainFace) → tally_in counts.new.entries f ≡ tally_in counts.old.entries f + face_count (cell.now ∷ []) f) }
+// Counts a new face twice. It looks the face up once.
+fn count_new(counts: &mut Counts, face: Face)
+    requires room { 0 < spare counts.old }
+    requires new { tally_in counts.old.entries face ≡ 0 }
+    ensures tally { (f : PlainFace) → tally_in counts.new.entries f ≡ tally_in counts.old.entries f + (if face_eq face f then 2 else 0) }
+    ensures singles { (v : ℕ) → single_count counts.new.entries v ≡ single_count counts.old.entries v }
+    ensures room { spare counts.old ≤ spare counts.new + 1 }
 {
-    if let Some(cell) = cell {
-        let [f, g, h, i] = cell.faces();
-        count_up(counts, f)?;
-        count_up(counts, g)?;
-        count_up(counts, h)?;
-        count_up(counts, i)?;
-    }
-    Ok(())
+    let _ = counts.insert(face, 2);
 }
 
-/// The counts of the faces of these cells.
-///
-/// It looks up four faces for each live cell. It first takes room for two faces a live cell, as most meshes need; the map
-/// grows past that, or where that room is refused, as faces come.
-pub fn count_cells(alloc: Global, cells: &[Option<Cell>]) -> Result<Counts, NoMemory>
-    requires few_cells { length cells.now ≤ 4000000 }
-    ensures tally { IfOk result (λ counts. (f : PlainFace) → tally_in counts.entries f ≡ face_count cells.now f) }
+/// Counts the six faces that a new point has with two corners of a cell. Two of the four cells round the point have each.
+pub fn count_split(counts: &mut Counts, point: u32, cell: &Cell)
+    requires room { 6 ≤ spare counts.old }
+    requires new { (f : PlainFace) → is_on f point ≡ true → tally_in counts.old.entries f ≡ 0 }
+    requires beside { has_corner cell.now point ≡ false }
+    ensures tally { (f : PlainFace) → tally_in counts.new.entries f + count_by (λ g. face_eq g f) (faces cell.now) ≡ tally_in counts.old.entries f + face_count (quarters point cell.now) f }
+    ensures singles { (v : ℕ) → single_count counts.new.entries v ≡ single_count counts.old.entries v }
 {
-    let mut counts = IndexMap::with_hasher(alloc, FaceHasher::new());
-    let live = cells.iter().flatten().count();
-    let _ = counts.reserve(live.saturating_mul(2));
-    for cell in cells {
-        count_cell(&mut counts, cell)?;
-    }
-    Ok(counts)
+    let [a, b, c, d] = cell.corners();
+    count_new(counts, Face::new(a, b, point));
+    count_new(counts, Face::new(a, c, point));
+    count_new(counts, Face::new(a, d, point));
+    count_new(counts, Face::new(b, c, point));
+    count_new(counts, Face::new(b, d, point));
+    count_new(counts, Face::new(c, d, point));
 }

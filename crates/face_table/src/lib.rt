@@ -5,6 +5,7 @@
 #![tactic(auto)]
 
 mod counts;
+mod groups;
 mod hasher;
 mod singles;
 mod surface;

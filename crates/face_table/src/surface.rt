@@ -1,5 +1,5 @@
 //! The surface: the vertices with a single face, ascending.
-ghost use Rattle.std.specs.Prelude.{◌≡◌, ◌≢◌, ◌⊎◌, ◌↔◌, ℕ, ◌+◌, ◌<◌, ◌≤◌, slice_index, vec_len, vec_capacity, Contains, length, false, IfOk, [], ◌∷◌, ◌++◌, if◌then◌else◌, nat_lt};
+ghost use Rattle.std.specs.Prelude.{◌≡◌, ◌≢◌, ◌⊎◌, ◌↔◌, ℕ, ◌+◌, ◌<◌, ◌≤◌, slice_index, vec_len, vec_capacity, Contains, length, false, IfOk, OnOk, [], ◌∷◌, ◌++◌, if◌then◌else◌, nat_lt};
 ghost use Rattle.mesh_base.specs.Mesh.{IsWithin, has_corner};
 ghost use Rattle.mesh_base.specs.Numbers.{IsPlaceOf};
 ghost use Rattle.std.specs.List.Sorted.{IsStrictlyIncreasing};
@@ -69,6 +69,21 @@ pub fn settle_corners(singles: &Vec<usize>, surface: &mut Vec<u32>, cell: &Cell)
     settle(singles, surface, b);
     settle(singles, surface, c);
     settle(singles, surface, d);
+}
+
+/// Makes room for one more point, should every point come to the surface. Both lists stay the same.
+pub fn reserve_point(singles: &mut Vec<usize>, surface: &mut Vec<u32>) -> Result<(), NoMemory>
+    ensures singles { singles.new.items ≡ singles.old.items }
+    ensures surface { surface.new.items ≡ surface.old.items }
+    ensures single_capacity { vec_capacity singles.old ≤ vec_capacity singles.new }
+    ensures surface_capacity { vec_capacity surface.old ≤ vec_capacity surface.new }
+    ensures single_room { OnOk result (vec_len singles.new < vec_capacity singles.new) }
+    ensures surface_room { OnOk result (vec_len singles.new < vec_capacity surface.new) }
+{
+    singles.reserve(1)?;
+    let missing = (singles.len() + 1).saturating_sub(surface.len());
+    surface.reserve(missing)?;
+    Ok(())
 }
 
 // Appends v if it is wanted, where there is room.

@@ -1,14 +1,15 @@
 //! The table of faces.
-ghost use Rattle.std.specs.Prelude.{◌≡◌, ℕ, List, Option, None, [], ◌∷◌, ◌++◌, ◌+◌, ◌<◌, ◌≤◌, length, IfOk, count_by, filter, slice_set, OnOk, OnErr};
+ghost use Rattle.std.specs.Prelude.{◌≡◌, ℕ, List, Option, None, [], ◌∷◌, ◌++◌, ◌+◌, ◌<◌, ◌≤◌, true, false, length, IfOk, count_by, filter, slice_set, OnOk, OnErr};
 ghost use Rattle.std.specs.List.{range_with_len};
-ghost use Rattle.mesh_base.specs.Edit.{cell_at};
+ghost use Rattle.mesh_base.specs.Edit.{cell_at, split_cells};
 ghost use Rattle.mesh_base.specs.Mesh.{Face as PlainFace, Corners, IsWithin, AreWithin, AreAllDifferent, face_eq, faces, count, is_surface};
 ghost use Rattle.mesh_base.specs.Numbers.{IsListOf};
 ghost use Rattle.face_table.specs.Tally.{tally_of, IsOnSurface, IsTallyOf, HasCell, HasFreePoint, HasRoom};
 
-use crate::counts::{Counts, count_cells, count_of};
+use crate::counts::{Counts, count_of, count_split};
+use crate::groups::count_cells;
 use crate::singles::{list_singles, put_faces, take_faces};
-use crate::surface::{list_surface, settle_corners};
+use crate::surface::{list_surface, reserve_point, settle_corners};
 use mesh_base::{Cell, Face, NoMemory};
 use std::alloc::Global;
 use std::marker::Model;
@@ -22,37 +23,44 @@ pub struct FaceTable {
     counts: Counts,
     singles: Vec<usize>,
     surface: Vec<u32>,
+    // Whether `reserve_split` made room and nothing came since.
+    ready: bool,
 }
 
 impl Model for FaceTable {
-    ghost use Rattle.std.specs.Prelude.{length};
-    ghost use Rattle.face_table.specs.Tally.{Tally, IsFaceTable};
+    ghost use Rattle.std.specs.Prelude.{◌≡◌, true, length};
+    ghost use Rattle.face_table.specs.Tally.{Tally, IsFaceTable, HasSplitRoom};
 
     ghost Value = { Tally };
 
-    ghost view = { λ t. record { points = length t.singles.items; counts = t.counts.entries } };
+    ghost view = { λ t. record { points = length t.singles.items; counts = t.counts.entries; ready = t.ready } };
 
-    ghost invariant = { λ t. IsFaceTable t.counts.entries t.singles.items t.surface };
+    ghost invariant = { λ t. IsFaceTable t.counts.entries t.singles.items t.surface
+        × (t.ready ≡ true → HasSplitRoom t.counts t.singles t.surface) };
 }
 
 impl FaceTable {
     /// The table of these cells over points numbered from 0. An absent cell, None, counts for nothing.
     ///
-    /// It looks up four faces for each live cell, and then passes once over the faces and once over the points.
+    /// It passes three times over the cells, and looks at each again for each range of points that it has corners in. It
+    /// gathers the faces point by point, looks up each face once, and then passes once over the faces and once over the
+    /// points.
     pub fn build(alloc: Global, points: u32, cells: &[Option<Cell>]) -> Result<FaceTable, NoMemory>
         requires few_points { points ≤ 1000000 }
         requires few_cells { length cells.now ≤ 4000000 }
         requires within { AreWithin points cells.now }
         ensures points { IfOk result (λ table. table.points ≡ points) }
         ensures cells { IfOk result (IsTallyOf cells.now) }
+        ensures ready { IfOk result (λ table. table.ready ≡ false) }
     {
-        let counts = count_cells(alloc, cells)?;
+        let counts = count_cells(alloc, points, cells)?;
         let singles = list_singles(alloc, points, &counts)?;
         let surface = list_surface(alloc, &singles)?;
         Ok(FaceTable {
             counts,
             singles,
             surface,
+            ready: false,
         })
     }
 
@@ -75,11 +83,13 @@ impl FaceTable {
         ensures points { self.new.points ≡ self.old.points }
         ensures tally { OnOk result ((f : PlainFace) → tally_of self.new f ≡ tally_of self.old f + count_by (λ g. face_eq g f) (faces cell)) }
         ensures cells { OnOk result ((cells : List (Option Corners)) → IsTallyOf cells self.old → IsTallyOf (cells ++ Some cell ∷ []) self.new) }
+        ensures ready { OnOk result (self.new.ready ≡ false) }
         ensures err { OnErr result (self.new ≡ self.old) }
     {
         self.counts.reserve(4)?;
         put_faces(&mut self.counts, &mut self.singles, &cell);
         settle_corners(&self.singles, &mut self.surface, &cell);
+        self.ready = false;
         Ok(())
     }
 
@@ -89,9 +99,43 @@ impl FaceTable {
         ensures points { self.new.points ≡ self.old.points }
         ensures tally { (f : PlainFace) → tally_of self.new f + count_by (λ g. face_eq g f) (faces cell) ≡ tally_of self.old f }
         ensures cells { (cells : List (Option Corners)) (i : ℕ) → IsTallyOf cells self.old → cell_at cells i ≡ Some cell → IsTallyOf (slice_set cells i None) self.new }
+        ensures ready { self.new.ready ≡ false }
     {
         take_faces(&mut self.counts, &mut self.singles, &cell);
         settle_corners(&self.singles, &mut self.surface, &cell);
+        self.ready = false;
+    }
+
+    /// Makes room for a split, so that `split_cell` can't be refused. After `NoMemory` the table is as it was.
+    ///
+    /// It costs nothing to speak of, but where a list has to grow. The room is there until the next change.
+    pub fn reserve_split(&mut self, _alloc: Global) -> Result<(), NoMemory>
+        ensures points { self.new.points ≡ self.old.points }
+        ensures counts { self.new.counts ≡ self.old.counts }
+        ensures ready { OnOk result (self.new.ready ≡ true) }
+        ensures err { OnErr result (self.new ≡ self.old) }
+    {
+        self.counts.reserve(6)?;
+        reserve_point(&mut self.singles, &mut self.surface)?;
+        self.ready = true;
+        Ok(())
+    }
+
+    /// Replaces a live cell by the four that have a new point in place of one of its corners. `reserve_split` comes first.
+    ///
+    /// It looks up six faces, those of the new point that two of the four cells have, and takes no memory. Each face of the
+    /// old cell goes to one of the four and keeps its count, so no vertex comes to the surface or leaves it.
+    pub fn split_cell(&mut self, point: u32, cell: Cell)
+        requires ready { self.old.ready ≡ true }
+        requires next { point ≡ self.old.points }
+        requires there { HasCell self.old cell }
+        ensures points { self.new.points ≡ point + 1 }
+        ensures cells { (cells : List (Option Corners)) (i : ℕ) → IsTallyOf cells self.old → cell_at cells i ≡ Some cell → IsTallyOf (split_cells cells point i cell) self.new }
+        ensures ready { self.new.ready ≡ false }
+    {
+        count_split(&mut self.counts, point, &cell);
+        self.singles.push_reserved(0usize);
+        self.ready = false;
     }
 
     /// One point more, which no cell has. After `NoMemory` the table is as it was.
@@ -101,12 +145,12 @@ impl FaceTable {
         ensures counts { self.new.counts ≡ self.old.counts }
         ensures points { OnOk result (self.new.points ≡ self.old.points + 1) }
         ensures cells { (cells : List (Option Corners)) → IsTallyOf cells self.old → IsTallyOf cells self.new }
+        ensures ready { OnOk result (self.new.ready ≡ false) }
         ensures err { OnErr result (self.new ≡ self.old) }
     {
-        self.singles.reserve(1)?;
-        let missing = (self.singles.len() + 1).saturating_sub(self.surface.len());
-        self.surface.reserve(missing)?;
+        reserve_point(&mut self.singles, &mut self.surface)?;
         self.singles.push_reserved(0);
+        self.ready = false;
         Ok(())
     }
 
@@ -117,10 +161,12 @@ impl FaceTable {
         ensures points { self.new.points + 1 ≡ self.old.points }
         ensures counts { self.new.counts ≡ self.old.counts }
         ensures cells { (cells : List (Option Corners)) → IsTallyOf cells self.old → IsTallyOf cells self.new }
+        ensures ready { self.new.ready ≡ false }
     {
         let _len = self.counts.len();
         let count = self.singles.len();
         self.singles.truncate(count - 1);
+        self.ready = false;
     }
 
     /// The vertices of the surface, ascending. It takes no memory and no time to speak of.

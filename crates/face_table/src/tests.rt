@@ -1,7 +1,7 @@
 //! Tables beside surfaces that were worked out by hand, and beside tables that are built anew.
-ghost use Rattle.std.specs.Prelude.{◌≡◌, ◌+◌, ◌<◌, ◌↔◌, [], length, IsTrue, OnOk, IfOk};
+ghost use Rattle.std.specs.Prelude.{◌≡◌, ◌+◌, ◌<◌, ◌↔◌, Some, [], ◌∷◌, ◌++◌, length, IsTrue, OnOk, IfOk};
 ghost use Rattle.mesh_base.specs.Edit.{cell_at};
-ghost use Rattle.mesh_base.specs.Mesh.{IsWithin};
+ghost use Rattle.mesh_base.specs.Mesh.{IsWithin, corners_of};
 ghost use Rattle.face_table.specs.Tally.{IsTallyOf};
 
 use crate::FaceTable;
@@ -77,6 +77,16 @@ fn remove(table: &mut FaceTable, cells: &mut Vec<Option<Cell>>, i: usize) -> Res
     }
 }
 
+// Appends a cell to the list.
+fn list(cells: &mut Vec<Option<Cell>>, corners: [u32; 4]) -> Result<(), Fail>
+    ensures { OnOk result (cells.new.items ≡ cells.old.items ++ Some (corners_of corners) ∷ []) }
+{
+    let cell = Cell::new(corners).ok_or("a corner twice")?;
+    cells.reserve(1)?;
+    cells.push_reserved(Some(cell));
+    Ok(())
+}
+
 // Replaces cell i by four cells round a new point.
 fn split(
     alloc: Global,
@@ -90,13 +100,19 @@ fn split(
     ensures points { OnOk result (table.new.points ≡ point + 1) }
     ensures cells { OnOk result (IsTallyOf cells.new.items table.new) }
 {
-    let points = point.checked_add(1).ok_or("points")?;
-    table.put_point(alloc)?;
-    let [a, b, c, d] = remove(table, cells, i)?.corners();
-    append(alloc, table, points, cells, [point, b, c, d])?;
-    append(alloc, table, points, cells, [a, point, c, d])?;
-    append(alloc, table, points, cells, [a, b, point, d])?;
-    append(alloc, table, points, cells, [a, b, c, point])
+    match live_cell(cells, i) {
+        Some(cell) if i < cells.len() => {
+            table.reserve_split(alloc)?;
+            table.split_cell(point, cell);
+            cells[i] = None;
+            let [a, b, c, d] = cell.corners();
+            list(cells, [point, b, c, d])?;
+            list(cells, [a, point, c, d])?;
+            list(cells, [a, b, point, d])?;
+            list(cells, [a, b, c, point])
+        }
+        _ => Err(Fail::new("no cell")),
+    }
 }
 
 // A mesh with these cells, whose points lie all in one place.
@@ -183,11 +199,12 @@ fn split_first(
     Ok(())
 }
 
-// Cells of which some are taken out, a face with the count that it then has, and the surface.
+// Cells of which the first are split and some are taken out, a face with the count that it then has, and the surface.
 #[derive(Clone, Copy)]
 struct Case {
     points: u32,
     put: &'static [[u32; 4]],
+    splits: u32,
     taken: &'static [usize],
     face: [u32; 3],
     count: u32,
@@ -203,9 +220,13 @@ fn tally(table: &FaceTable, face: [u32; 3]) -> u32 {
 }
 
 fn check_case(alloc: Global, case: &Case) -> Result<(), Fail> {
+    if case.points >= 1000 || case.splits >= 1000 {
+        return Err(Fail::new("too many points"));
+    }
     let mut table = bare(alloc, case.points)?;
     let mut cells = Vec::new(alloc);
     fill(alloc, &mut table, case.points, &mut cells, case.put)?;
+    split_first(alloc, &mut table, case.points, &mut cells, case.splits)?;
     clear(&mut table, &mut cells, case.taken)?;
     if table.surface() != case.surface {
         return Err(Fail::new(format_args!("surface {:?}", table.surface())));
@@ -213,9 +234,14 @@ fn check_case(alloc: Global, case: &Case) -> Result<(), Fail> {
     if tally(&table, case.face) != case.count {
         return Err(Fail::new(format_args!("count of {:?}", case.face)));
     }
-    compared(alloc, &table, case.points, cells.as_slice())?;
+    compared(alloc, &table, case.points + case.splits, cells.as_slice())?;
     Ok(())
 }
+
+// A cell, and the same cell twice.
+const ONE: &[[u32; 4]] = &[[0, 1, 2, 3]];
+
+const TWICE: &[[u32; 4]] = &[[0, 1, 2, 3], [3, 2, 1, 0]];
 
 // A cell that was split round point 4, and a cell of that round point 5.
 const TWO_SPLITS: &[[u32; 4]] = &[
@@ -241,33 +267,31 @@ const CLOSED: &[[u32; 4]] = &[
 
 #[test]
 fn surfaces_are_those_of_the_cells(rt: HostRuntime) -> Result<(), Fail> {
-    for (points, put, taken, face, count, surface) in [
+    for (points, put, splits, taken, face, count, surface) in [
         (
             6,
             TWO_SPLITS,
+            0,
             [0, 2].as_slice(),
             [1, 4, 0],
             2,
             [0, 1, 2, 3].as_slice(),
         ),
-        (6, TWO_SPLITS, &[2, 0, 3], [1, 4, 0], 1, &[0, 1, 2, 3, 4]),
-        (5, CLOSED, &[], [2, 1, 0], 2, &[]),
-        (5, CLOSED, &[4], [1, 2, 3], 1, &[1, 2, 3, 4]),
-        (4, &[[0, 1, 2, 3], [3, 2, 1, 0]], &[], [1, 2, 3], 2, &[]),
-        (
-            4,
-            &[[0, 1, 2, 3], [3, 2, 1, 0]],
-            &[0],
-            [1, 2, 3],
-            1,
-            &[0, 1, 2, 3],
-        ),
-        (7, &[[4, 1, 2, 6]], &[], [1, 2, 4], 1, &[1, 2, 4, 6]),
-        (7, &[[4, 1, 2, 6]], &[0], [1, 2, 4], 0, &[]),
+        (6, TWO_SPLITS, 0, &[2, 0, 3], [1, 4, 0], 1, &[0, 1, 2, 3, 4]),
+        (4, ONE, 1, &[], [1, 4, 0], 2, &[0, 1, 2, 3]),
+        (4, ONE, 1, &[1], [3, 4, 2], 1, &[0, 1, 2, 3, 4]),
+        (5, CLOSED, 0, &[], [2, 1, 0], 2, &[]),
+        (5, CLOSED, 0, &[4], [1, 2, 3], 1, &[1, 2, 3, 4]),
+        (5, CLOSED, 2, &[], [2, 1, 0], 2, &[]),
+        (4, TWICE, 0, &[], [1, 2, 3], 2, &[]),
+        (4, TWICE, 0, &[0], [1, 2, 3], 1, &[0, 1, 2, 3]),
+        (7, &[[4, 1, 2, 6]], 0, &[], [1, 2, 4], 1, &[1, 2, 4, 6]),
+        (7, &[[4, 1, 2, 6]], 0, &[0], [1, 2, 4], 0, &[]),
     ] {
         let case = Case {
             points,
             put,
+            splits,
             taken,
             face,
             count,

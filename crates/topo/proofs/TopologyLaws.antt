@@ -1,18 +1,21 @@
 -- lemmas on topologies, and on the lists of cells of which tables are those
-use Rattle.std.proofs.Common.{◌≡◌, ℕ, zero, suc, ◌+◌, ◌-◌, ◌<◌, ◌≤◌, Bool, true, false, eqb, not, List, [], ◌∷◌, ◌++◌, length, get_or, set, take, filter, count_by, sum_by, flat_map, drop, pos, ◌↔◌, Option, Some, None, IfSome, IsTrue, option_and_then, refl, sym, ap, subst, ◌∙◌, arith, length-append}
-use Rattle.std.proofs.lemmas.List.{length-set, length-take, length-replicate, take-append-le, drop-take, take_all, get_or_append_left, get_or-append-add}
+use Rattle.std.proofs.Common.{◌≡◌, ℕ, ◌+◌, ◌-◌, ◌<◌, ◌≤◌, Bool, true, false, eqb, not, List, [], ◌∷◌, ◌++◌, length, get_or, set, take, filter, drop, pos, ◌↔◌, Option, Some, None, IfSome, IsSome, IsTrue, option_and_then, refl, sym, ap, subst, ◌∙◌, arith, length-append}
+use Rattle.std.proofs.lemmas.List.{length-set, length-replicate, take-append-le, drop-take, take_all, get_or_append_left, get_or-append-add}
 use Rattle.std.proofs.Math.ListN.{replicate}
 use Rattle.std.proofs.Math.Seq.{drop-append_seam}
 use Rattle.std.proofs.lemmas.Option.{slice_get-get_or}
-use Rattle.std.proofs.lemmas.List.Elements.{All-set, All-push, All-weaker, All-take}
+use Rattle.std.proofs.lemmas.List.Elements.{All-set, All-push}
 use Rattle.std.specs.List.{range_with_len}
-use Rattle.mesh_base.specs.Mesh.{MeshView, Corners, IsMesh, IsWithin, AreWithin, AreDifferent, AreAllDifferent, face_eq, faces, live, is_vertex, is_surface, are_neighbours, surface, neighbours}
+use Rattle.std.specs.Option.{option_map_or}
+use Rattle.mesh_base.specs.Mesh.{MeshView, Corners, IsMesh, IsWithin, AreWithin, AreDifferent, AreAllDifferent, is_vertex, are_neighbours, neighbours}
 use Rattle.mesh_base.specs.Place.{Place}
-use Rattle.mesh_base.specs.Edit.{cell_at, EditFits}
+use Rattle.mesh_base.specs.Edit.{cell_at, split_cells, EditFits}
 use Rattle.mesh_base.specs.declared.edit.Edit.{Edit}
+use Rattle.mesh_base.specs.declared.edit.Edit.TheVariants.{Split}
+use Rattle.mesh_base.proofs.EditLaws.{keeps}
 use Rattle.mesh_base.proofs.NumberLaws.{vertex_point, has_neighbours}
 use Rattle.face_table.specs.Tally.{Tally, IsTallyOf}
-use Rattle.edge_table.specs.Pairs.{RowView, IsPairsOf, pair_share}
+use Rattle.edge_table.specs.Pairs.{RowView, IsPairsOf}
 use Rattle.topo.specs.Topology.{Topology, IsTopologyOf, IsTopology, Fits}
 use Rattle.topo.specs.Tables.{AreTables, IsRowAt}
 
@@ -36,30 +39,6 @@ no_vertex n cells a = by (is_vertex cells n) refl
     by false e = refl
     by true e = let lt = vertex_point n cells n a e in absurd (omega arith)
 
--- the live cells are all that tables count
-pub tally-same : (a b : List (Option Corners)) (t : Tally) → live a ≡ live b → IsTallyOf a t → IsTallyOf b t
-tally-same a b t e h f = h f ∙ ap (λ l. count_by (λ g. face_eq g f) (flat_map faces l)) e
-
-pub pairs-same : (a b : List (Option Corners)) (t : List RowView) → live a ≡ live b → IsPairsOf a t → IsPairsOf b t
-pairs-same a b t e h v w = h v w ∙ ap (sum_by (λ c. pair_share c v w)) e
-
--- an absent cell at the end counts for nothing
-pub live-pop : (cells : List (Option Corners)) (last : ℕ) → last + 1 ≡ length cells → live (set cells last None) ≡ live (take last cells)
-live-pop [] last e = absurd (omega arith)
-live-pop (x ∷ []) zero e = refl
-live-pop (x ∷ y ∷ cells) zero e = absurd (omega arith)
-live-pop (None ∷ cells) (suc last) e = live-pop cells last (omega arith)
-live-pop (Some c ∷ cells) (suc last) e = ap (λ l. c ∷ l) (live-pop cells last (omega arith))
-
--- setting what is there changes nothing
-pub live-absent : (cells : List (Option Corners)) (last : ℕ) → last + 1 ≡ length cells → get_or cells last None ≡ None → live cells ≡ live (take last cells)
-live-absent [] last e none = absurd (omega arith)
-live-absent (None ∷ []) zero e none = refl
-live-absent (Some c ∷ []) zero e none = absurd (cc)
-live-absent (x ∷ y ∷ cells) zero e none = absurd (omega arith)
-live-absent (None ∷ cells) (suc last) e none = live-absent cells last (omega arith) none
-live-absent (Some c ∷ cells) (suc last) e none = ap (λ l. c ∷ l) (live-absent cells last (omega arith) none)
-
 -- what a topology keeps
 pub IsTopology-push : (n : ℕ) (cells : List (Option Corners)) (c : Corners) → length cells < 4000000 → IsWithin n c → AreDifferent c → IsTopology n cells → IsTopology n (cells ++ Some c ∷ [])
 IsTopology-push n cells c lt w d valid = record {
@@ -75,32 +54,6 @@ IsTopology-remove n cells i valid = record {
   few_cells = omega (arith, length-set cells i None, valid.few_cells);
   within = All-set (λ cell. IfSome cell (IsWithin n)) cells i None tt valid.within;
   different = All-set (λ cell. IfSome cell AreDifferent) cells i None tt valid.different;
-}
-
-pub IsTopology-take : (n : ℕ) (cells : List (Option Corners)) (i : ℕ) → IsTopology n cells → IsTopology n (take i cells)
-IsTopology-take n cells i valid = record {
-  few_points = valid.few_points;
-  few_cells = omega (arith, length-take i cells, valid.few_cells);
-  within = All-take (λ cell. IfSome cell (IsWithin n)) i cells valid.within;
-  different = All-take (λ cell. IfSome cell AreDifferent) i cells valid.different;
-}
-
-pub IsTopology-fewer : (n : ℕ) (cells : List (Option Corners)) → AreWithin (n - 1) cells → IsTopology n cells → IsTopology (n - 1) cells
-IsTopology-fewer n cells within valid = record {
-  few_points = omega (arith, valid.few_points);
-  few_cells = valid.few_cells;
-  within = within;
-  different = valid.different;
-}
-
--- tables see live cells alone
-pub AreTables-same : (n : ℕ) (a b : List (Option Corners)) (faces : Tally) (edges : List RowView) → live a ≡ live b → IsTopology n b → AreTables n a faces edges → AreTables n b faces edges
-AreTables-same n a b faces edges e valid h = record {
-  valid = valid;
-  tally = tally-same a b faces e h.tally;
-  pairs = pairs-same a b edges e h.pairs;
-  face_points = h.face_points;
-  edge_points = h.edge_points;
 }
 
 pub cell_at-index : (cells : List (Option Corners)) (i : ℕ) (o : Option Corners) → i < length cells → o ≡ get_or cells i o → cell_at cells i ≡ o
@@ -126,6 +79,24 @@ fits_one t edit b each = (
   λ h. (mesh_with t, has_mesh t, (each (mesh_with t) (has_mesh t)).0 h),
   λ fits. (each fits.0 fits.1).1 fits.2,
 )
+
+-- a split keeps a topology within its limits, as it keeps each mesh
+IsTopology-split : (n : ℕ) (cells : List (Option Corners)) (i : ℕ) (c : Corners) → cell_at cells i ≡ Some c → n < 1000000 → length cells ≤ 3999996 → IsTopology n cells → IsTopology (n + 1) (split_cells cells n i c)
+unfolding mesh_with
+IsTopology-split n cells i c at few_points few_cells valid =
+    let t : Topology = record { points = n; cells = cells } in
+    let mesh = mesh_with t in
+    let len : length mesh.points ≡ n = length-replicate n origin in
+    let more = length-append mesh.points (origin ∷ []) in
+    let m = keeps mesh (Split i origin) (mesh_of mesh t (has_mesh t) valid) (subst IsSome (sym at) refl, omega arith, few_cells) in
+    let same : option_map_or (split_cells cells (length mesh.points) i) (cell_at cells i) cells ≡ split_cells cells n i c =
+    ap (λ o. option_map_or (split_cells cells (length mesh.points) i) o cells) at ∙ ap (λ k. split_cells cells k i c) len in
+    record {
+      few_points = omega arith;
+      few_cells = let f = m.few_cells in omega (arith, ap length same);
+      within = subst (λ k. AreWithin k (split_cells cells n i c)) (more ∙ ap (λ k. k + 1) len) (subst (AreWithin (length (mesh.points ++ origin ∷ []))) same m.within);
+      different = subst AreAllDifferent same m.different;
+    }
 
 -- a part of a list stays as it is while the list grows
 part-append : (a b : ℕ) (xs ys : List ℕ) → a ≤ b → b ≤ length xs → take (b - a) (drop a (xs ++ ys)) ≡ take (b - a) (drop a xs)
@@ -179,16 +150,15 @@ module _ (n : ℕ) (cells : List (Option Corners)) (faces newer_faces : Tally) (
     edge_points = ep ∙ tables.edge_points;
   }
 
--- cells that come at the end leave the one at i as it is
-pub cell_at-append : (xs ys : List (Option Corners)) (i : ℕ) (c : Corners) → cell_at xs i ≡ Some c → cell_at (xs ++ ys) i ≡ Some c
-cell_at-append [] ys i c e = absurd (cc)
-cell_at-append (x ∷ xs) ys zero c e = e
-cell_at-append (x ∷ xs) ys (suc i) c e = cell_at-append xs ys i c e
-
-pub set-append : (xs ys : List (Option Corners)) (i : ℕ) (c : Corners) → cell_at xs i ≡ Some c → set (xs ++ ys) i None ≡ set xs i None ++ ys
-set-append [] ys i c e = absurd (cc)
-set-append (x ∷ xs) ys zero c e = refl
-set-append (x ∷ xs) ys (suc i) c e = ap (λ l. x ∷ l) (set-append xs ys i c e)
+  pub AreTables-split : (i : ℕ) (c : Corners) → cell_at cells i ≡ Some c → n < 1000000 → length cells ≤ 3999996 → IsTallyOf (split_cells cells n i c) newer_faces → IsPairsOf (split_cells cells n i c) newer_edges
+      → newer_faces.points ≡ n + 1 → length newer_edges ≡ n + 1 → AreTables (n + 1) (split_cells cells n i c) newer_faces newer_edges
+  AreTables-split i c at few_points few_cells t p fp ep = record {
+    valid = IsTopology-split n cells i c at few_points few_cells tables.valid;
+    tally = t;
+    pairs = p;
+    face_points = fp;
+    edge_points = ep;
+  }
 
 -- a vertex is a point that has neighbours
 pub vertex_of : (n v : ℕ) (cells : List (Option Corners)) (row : List ℕ) → IsTopology n cells → row ≡ filter (are_neighbours cells v) (range_with_len 0 n) → not (eqb (length row) 0) ≡ is_vertex cells v

@@ -1,5 +1,5 @@
 //! The cells of a mesh with the two tables that follow from them, changed by edits.
-ghost use Rattle.std.specs.Prelude.{◌≡◌, ◌==◌, ◌↔◌, ℕ, not, ◌+◌, ◌-◌, ◌<◌, ◌≤◌, List, Option, [], ◌∷◌, ◌++◌, Some, None, length, filter, map, take, slice_set, All, IfSome, IsSome, IsTrue, IfOk, OnOk, OnErr};
+ghost use Rattle.std.specs.Prelude.{◌≡◌, ◌==◌, ◌↔◌, ℕ, not, ◌+◌, ◌<◌, ◌≤◌, List, Option, [], ◌∷◌, ◌++◌, Some, None, length, vec_len, vec_capacity, filter, map, slice_set, IfSome, IsSome, IsTrue, IfOk, OnOk, OnErr};
 ghost use Rattle.std.specs.List.{range_with_len};
 ghost use Rattle.mesh_base.specs.Mesh.{MeshView, corners_of, AreDifferent, AreWithin, AreAllDifferent, IsWithin, IsMesh, is_vertex, is_surface, are_neighbours, surface, neighbours};
 ghost use Rattle.mesh_base.specs.Edit.{cell_at, edited, quarters, split_cells, EditFits};
@@ -61,8 +61,7 @@ fn cell_of(corners: [u32; 4]) -> Cell
 // The four cells that have the point in place of one corner.
 fn quarters_of(point: u32, cell: &Cell) -> [Cell; 4]
     requires { IsWithin point cell.now }
-    ensures cells { map Some result ≡ quarters point cell.now }
-    ensures within { All (IsWithin (point + 1)) result }
+    ensures { map Some result ≡ quarters point cell.now }
 {
     let [a, b, c, d] = cell.corners();
     [
@@ -71,6 +70,18 @@ fn quarters_of(point: u32, cell: &Cell) -> [Cell; 4]
         cell_of([a, b, point, d]),
         cell_of([a, b, c, point]),
     ]
+}
+
+// One entry becomes absent, and these cells come at the end, where there is room.
+fn split_list(cells: &mut Vec<Option<Cell>>, split: u32, quarters: &[Cell])
+    requires live { split < vec_len cells.old }
+    requires room { vec_len cells.old + length quarters.now ≤ vec_capacity cells.old }
+    ensures { cells.new.items ≡ slice_set cells.old.items split None ++ map Some quarters.now }
+{
+    cells[split as usize] = None;
+    for cell in quarters {
+        cells.push_reserved(Some(*cell));
+    }
 }
 
 impl Tables {
@@ -219,18 +230,6 @@ impl Tables {
         Ok(())
     }
 
-    // One point less: the last, which no cell has.
-    fn pop_point(&mut self)
-        requires some { 0 < self.old.points }
-        requires free { AreWithin (self.old.points - 1) self.old.cells }
-        ensures points { self.new.points + 1 ≡ self.old.points }
-        ensures cells { self.new.cells ≡ self.old.cells }
-    {
-        self.faces.drop_point();
-        self.edges.drop_point();
-        self.points -= 1;
-    }
-
     // One cell more, at the end of the list.
     fn push_cell(&mut self, alloc: Global, cell: Cell) -> Result<(), NoMemory>
         requires few { length self.old.cells < 4000000 }
@@ -247,49 +246,6 @@ impl Tables {
             return Err(refused);
         }
         self.cells.push_reserved(Some(cell));
-        Ok(())
-    }
-
-    // The last entry of the list goes.
-    fn pop_cell(&mut self)
-        requires { 0 < length self.old.cells }
-        ensures points { self.new.points ≡ self.old.points }
-        ensures cells { self.new.cells ≡ take (length self.old.cells - 1) self.old.cells }
-    {
-        let last = self.cells.len() - 1;
-        if let Some(popped) = self.cells[last] {
-            self.faces.take_cell(popped);
-            self.edges.take_cell(popped);
-        }
-        self.cells.truncate(last);
-    }
-
-    // The entries from number `len` on go.
-    fn truncate(&mut self, len: usize)
-        requires { len ≤ length self.old.cells }
-        ensures points { self.new.points ≡ self.old.points }
-        ensures cells { self.new.cells ≡ take len self.old.cells }
-    {
-        while self.cells.len() > len {
-            self.pop_cell();
-        }
-    }
-
-    // These cells more, or none of them.
-    fn push_cells(&mut self, alloc: Global, cells: &[Cell]) -> Result<(), NoMemory>
-        requires few { length self.old.cells + length cells.now ≤ 4000000 }
-        requires within { All (IsWithin self.old.points) cells.now }
-        ensures points { self.new.points ≡ self.old.points }
-        ensures cells { OnOk result (self.new.cells ≡ self.old.cells ++ map Some cells.now) }
-        ensures err { OnErr result (self.new ≡ self.old) }
-    {
-        let before = self.cells.len();
-        for cell in cells {
-            if let Err(refused) = self.push_cell(alloc, *cell) {
-                self.truncate(before);
-                return Err(refused);
-            }
-        }
         Ok(())
     }
 
@@ -315,13 +271,12 @@ impl Tables {
         ensures err { OnErr result (self.new ≡ self.old) }
     {
         let cell = self.live_cell(i).unwrap();
-        let quarters = quarters_of(self.points, &cell);
-        self.push_point(alloc)?;
-        if let Err(refused) = self.push_cells(alloc, &quarters) {
-            self.pop_point();
-            return Err(refused);
-        }
-        self.remove(i);
+        self.cells.reserve(4)?;
+        self.faces.reserve_split(alloc)?;
+        self.edges.split_cell(alloc, self.points, cell)?;
+        self.faces.split_cell(self.points, cell);
+        split_list(&mut self.cells, i, &quarters_of(self.points, &cell));
+        self.points += 1;
         Ok(())
     }
 }

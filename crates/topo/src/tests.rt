@@ -144,6 +144,37 @@ const CASES: &[Case] = &[
             &[0, 1, 3],
         ],
     },
+    // both cells of a face are split
+    Case {
+        changes: &[
+            Change::Point,
+            Change::Add([1, 2, 3, 4]),
+            Change::Split(1),
+            Change::Split(0),
+        ],
+        cells: &[
+            ABSENT,
+            ABSENT,
+            [5, 2, 3, 4],
+            [1, 5, 3, 4],
+            [1, 2, 5, 4],
+            [1, 2, 3, 5],
+            [6, 1, 2, 3],
+            [0, 6, 2, 3],
+            [0, 1, 6, 3],
+            [0, 1, 2, 6],
+        ],
+        surface: &[0, 1, 2, 3, 4],
+        near: &[
+            &[1, 2, 3, 6],
+            &[0, 2, 3, 4, 5, 6],
+            &[0, 1, 3, 4, 5, 6],
+            &[0, 1, 2, 4, 5, 6],
+            &[1, 2, 3, 5],
+            &[1, 2, 3, 4],
+            &[0, 1, 2, 3],
+        ],
+    },
 ];
 
 // One cell after these edits.

@@ -134,10 +134,10 @@ impl Topo {
 
     /// Makes the edit, in place. After NoMemory the topology is as it was.
     ///
-    /// It costs what the puts and the takes of its cells cost in the tables of faces and of neighbours: one for a new cell and
-    /// for one that goes, five for a split. A vertex that comes to the surface or leaves it also moves what stands behind it in
-    /// the list of the surface, and the corners of a split cell do both. It takes memory only where a list or a table has to
-    /// grow. A split that is refused memory halfway takes back what it put in.
+    /// A cell that comes or goes costs its put or its take in the tables of faces and of neighbours, and a vertex that so comes
+    /// to the surface or leaves it moves what stands behind it in the list of the surface. A split costs six look-ups of faces
+    /// and twelve searches in lists of neighbours, and leaves the surface as it is. An edit takes memory only where a list or
+    /// a table has to grow.
     pub fn edit(&mut self, alloc: Global, edit: &Edit) -> Result<(), NoMemory>
         requires fits { Fits self.old edit.now }
         ensures edited { OnOk result ((mesh : MeshView) → IsTopologyOf mesh self.old → IsTopologyOf (edited mesh edit.now) self.new) }

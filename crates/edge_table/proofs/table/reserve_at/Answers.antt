@@ -5,7 +5,7 @@ use Rattle.edge_table.proofs.TableLemmas.{shown-set_same, HasRoomAt-set_other, H
 use Rattle.edge_table.proofs.table.reserve_at.Goals as goal
 
 pub returns-clause-shown : goal.returns-clause-shown
-returns-clause-shown c = shown-set_same c.args.rows.now.items c.args.v c.reserve_three.new.row c.index_mut.result.now c.index_mut.ensures.value c.reserve_three.ensures.near c.reserve_three.ensures.counts
+returns-clause-shown c = shown-set_same c.args.rows.now.items c.args.v c.reserve_more.new.row c.index_mut.result.now c.index_mut.ensures.value c.reserve_more.ensures.near c.reserve_more.ensures.counts
 
 both_ok : {T E : Type 0} (P Q : Type 0) (r : Result T E) → OnOk r P → OnOk r Q → OnOk r (P × Q)
 both_ok P Q (Ok x) p q = (p, q)
@@ -17,15 +17,15 @@ map_ok P Q (Err e) f p = tt
 
 pub returns-clause-room : goal.returns-clause-room
 returns-clause-room c =
-    map_ok _ _ c.reserve_three.result (HasRoomAt-set_same c.args.rows.now.items c.args.v c.reserve_three.new.row (omega arith))
-    (both_ok _ _ c.reserve_three.result c.reserve_three.ensures.near_room c.reserve_three.ensures.counts_room)
+    map_ok _ _ c.reserve_more.result (HasRoomAt-set_same c.args.more c.args.rows.now.items c.args.v c.reserve_more.new.row (omega arith))
+    (both_ok _ _ c.reserve_more.result c.reserve_more.ensures.near_room c.reserve_more.ensures.counts_room)
 
 pub returns-clause-keeps : goal.returns-clause-keeps
 returns-clause-keeps c u h =
     elim (eq_or u c.args.v) [
       | inl e ↦
-          let r = room_of c.args.rows.now.items c.args.v c.index_mut.result.now (omega arith) c.index_mut.ensures.value (subst (HasRoomAt c.args.rows.now.items) e h) in
-          subst (HasRoomAt _) (sym e) (HasRoomAt-set_same c.args.rows.now.items c.args.v c.reserve_three.new.row (omega arith)
-          (let a = ap length c.reserve_three.ensures.near in let b = ap length c.reserve_three.ensures.counts in (omega (arith, r.0, c.reserve_three.ensures.near_capacity), omega (arith, r.1, c.reserve_three.ensures.counts_capacity))))
-      | inr n ↦ HasRoomAt-set_other c.args.rows.now.items c.args.v u c.reserve_three.new.row n h
+          let r = room_of c.args.more c.args.rows.now.items c.args.v c.index_mut.result.now (omega arith) c.index_mut.ensures.value (subst (HasRoomAt c.args.more c.args.rows.now.items) e h) in
+          subst (HasRoomAt c.args.more _) (sym e) (HasRoomAt-set_same c.args.more c.args.rows.now.items c.args.v c.reserve_more.new.row (omega arith)
+          (let a = ap length c.reserve_more.ensures.near in let b = ap length c.reserve_more.ensures.counts in (omega (arith, r.0, c.reserve_more.ensures.near_capacity), omega (arith, r.1, c.reserve_more.ensures.counts_capacity))))
+      | inr n ↦ HasRoomAt-set_other c.args.more c.args.rows.now.items c.args.v u c.reserve_more.new.row n h
     ]

@@ -1,26 +1,40 @@
-use Rattle.std.proofs.Common.{◌+◌, ◌++◌, Some, None, set, All, map, ◌∙◌, ap, sym, subst}
-use Rattle.mesh_base.specs.Mesh.{IsWithin}
-use Rattle.mesh_base.specs.Edit.{quarters}
-use Rattle.topo.proofs.TopologyLaws.{cell_at-append, set-append}
+use Rattle.std.proofs.Common.{◌≡◌, ◌+◌, ◌++◌, Some, None, set, map, length, ap, sym, ◌∙◌, arith}
+use Rattle.mesh_base.specs.Edit.{cell_at}
+use Rattle.face_table.specs.Tally.{tally_in}
+use Rattle.topo.proofs.TopologyLaws.{AreTables-split}
 use Rattle.topo.proofs.tables.Tables.split.Goals as goal
 
-pub push_cells-requires-clause-within : goal.push_cells-requires-clause-within
-push_cells-requires-clause-within c =
-    let points = ap (λ t. t.points + 1) c.self.view_is ∙ sym c.in_ok-push_point.ensures.points in
-    subst (λ n. All (IsWithin n) c.quarters_of-quarters.result) points c.quarters_of-quarters.ensures.within
+pub split_cell-requires : goal.split_cell-requires
+split_cell-requires c =
+    let cells = c.self.inside.cells.items in
+    let at : cell_at cells c.args.i ≡ Some c.unwrap-cell.result = ap (λ t. cell_at t.cells c.args.i) c.self.view_is ∙ sym c.live_cell.ensures.cell ∙ c.unwrap-cell.ensures in
+    let few = ap (λ t. length t.cells) c.self.view_is in
+    record {
+      next = sym c.self.invariant.edge_points;
+      room = (cells, c.self.invariant.pairs, omega (arith, few, c.requires.few_cells));
+      there = (cells, c.args.i, c.self.invariant.pairs, at);
+    }
 
-pub remove-requires : goal.remove-requires
-remove-requires c =
-    let at = sym c.live_cell.ensures.cell ∙ c.unwrap-cell.ensures in
-    let cells = c.in_default.ensures.cells ∙ ap (λ l. l ++ map Some c.quarters_of-quarters.result) c.in_ok-push_point.ensures.cells in
-    rw (cells, cell_at-append c.args.self.now.cells (map Some c.quarters_of-quarters.result) c.args.i c.unwrap-cell.result at)
+pub split_cell-requires-2 : goal.split_cell-requires-2
+split_cell-requires-2 c =
+    let cells = c.self.inside.cells.items in
+    let at : cell_at cells c.args.i ≡ Some c.unwrap-cell.result = ap (λ t. cell_at t.cells c.args.i) c.self.view_is ∙ sym c.live_cell.ensures.cell ∙ c.unwrap-cell.ensures in
+    record {
+      ready = c.in_ok-reserve_split.ensures.ready;
+      next = omega (arith, c.reserve_split.ensures.points, c.self.invariant.face_points);
+      there = (cells, c.args.i, λ f. ap (λ l. tally_in l f) c.reserve_split.ensures.counts ∙ c.self.invariant.tally f, at);
+    }
 
-pub returns-clause-cells : goal.returns-clause-cells
-returns-clause-cells c =
-    let at = sym c.live_cell.ensures.cell ∙ c.unwrap-cell.ensures in
-    let old = c.args.self.now.cells in
-    let four = c.quarters_of-quarters.result in
+pub invariant_of-self-2 : goal.invariant_of-self-2
+invariant_of-self-2 c =
+    let cells = c.self.inside.cells.items in
+    let n = c.self.inside.points in
     let i = c.args.i in
-    let cells = c.in_default.ensures.cells ∙ ap (λ l. l ++ map Some four) c.in_ok-push_point.ensures.cells in
-    rw at (c.remove.ensures.cells ∙ ap (λ l. set l i None) cells ∙ set-append old (map Some four) i c.unwrap-cell.result at
-    ∙ ap (λ l. set old i None ++ l) (c.quarters_of-quarters.ensures.cells ∙ ap (λ t. quarters t.points c.unwrap-cell.result) c.self.view_is))
+    let cell = c.unwrap-cell.result in
+    let at : cell_at cells i ≡ Some cell = ap (λ t. cell_at t.cells i) c.self.view_is ∙ sym c.live_cell.ensures.cell ∙ c.unwrap-cell.ensures in
+    let few = ap (λ t. length t.cells) c.self.view_is in
+    let points = ap (λ t. t.points) c.self.view_is in
+    let tally = c.split_cell-2.ensures.cells cells i (λ f. ap (λ l. tally_in l f) c.reserve_split.ensures.counts ∙ c.self.invariant.tally f) at in
+    let pairs = c.in_ok-split_cell.ensures.cells cells i c.self.invariant.pairs at in
+    let is = c.split_list.ensures ∙ ap (λ l. set l i None ++ map Some c.quarters_of.result) c.reserve.ensures.items ∙ ap (λ l. set cells i None ++ l) c.quarters_of.ensures in
+    rw is (AreTables-split n cells _ _ _ _ c.self.invariant i cell at (omega (arith, points, c.requires.few_points)) (omega (arith, few, c.requires.few_cells)) tally pairs c.split_cell-2.ensures.points c.in_ok-split_cell.ensures.points)

@@ -1,0 +1,55 @@
+//! Corners of cells.
+ghost use Rattle.std.specs.Prelude.{◌≡◌, [], ◌∷◌};
+ghost use Rattle.mesh_base.specs.Mesh.{AreDifferent};
+
+use std::marker::Model;
+
+/// A corner of a cell: its point, and the three other corners in their order.
+#[derive(Clone, Copy, Debug, PartialEq, Eq)]
+pub struct Corner {
+    point: u32,
+    first: u32,
+    second: u32,
+    third: u32,
+}
+
+impl Model for Corner {
+    ghost use Rattle.mesh_base.specs.Mesh.{Corners, AreDifferent};
+
+    ghost Value = { Corners };
+
+    ghost view = { λ k. (k.point, k.first, k.second, k.third) };
+
+    ghost invariant = { λ k. AreDifferent (k.point, k.first, k.second, k.third) };
+
+    ghost inverse = { λ k. record { point = k.0; first = k.1; second = k.2; third = k.3 } };
+}
+
+impl Corner {
+    pub(crate) fn new(point: u32, first: u32, second: u32, third: u32) -> Corner
+        requires different { AreDifferent (point, first, second, third) }
+        ensures { result ≡ (point, first, second, third) }
+    {
+        Corner {
+            point,
+            first,
+            second,
+            third,
+        }
+    }
+
+    /// The point.
+    pub fn point(&self) -> u32
+        ensures { result ≡ self.now.0 }
+    {
+        self.point
+    }
+
+    /// The point, and the three others.
+    pub fn numbers(&self) -> [u32; 4]
+        ensures numbers { result ≡ self.now.0 ∷ self.now.1 ∷ self.now.2 ∷ self.now.3 ∷ [] }
+        ensures different { AreDifferent self.now }
+    {
+        [self.point, self.first, self.second, self.third]
+    }
+}
