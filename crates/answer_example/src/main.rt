@@ -14,7 +14,7 @@ use std::alloc::Global;
 use std::sync::Arc;
 use vtk_legacy::read_mesh;
 
-/// One tetrahedron, with edges of 4 along the axes.
+// One tetrahedron, with edges of 4 along the axes.
 const MESH: &[u8] = b"# vtk DataFile Version 3.0
 one
 ASCII
@@ -27,17 +27,17 @@ CELL_TYPES 1
 10
 ";
 
-/// The box round the edge on the x axis.
+// The box round the edge on the x axis.
 fn edge_box() -> Option<BoxQ> {
     BoxQ::new(Point::new(0, 0, 0)?, Point::new(4, 0, 0)?)
 }
 
-/// The vertices that the surface of the mesh, a walk or a scan leads to inside the box.
+// The vertices that the surface of the mesh, a walk or a scan leads to inside the box.
 #[tactic(auto, unfolding(run_script::specs::Jobs::step_at))]
 fn vertices_inside(alloc: Global, mesh: Mesh, area: &BoxQ) -> Result<VertexList, NoMemory>
     ensures { IfOk result (λ vertices. vertices ≡ answer mesh area.now) }
 {
-    let job = Arc::new(alloc, Job::still(alloc, mesh))?;
+    let job = Arc::new(alloc, Job::still(alloc, mesh)?)?;
     let (step, _maker) = first_step(alloc, job)?;
     let mut marks = Marks::new(alloc, step.points())?;
     let (_route, vertices) = answer_plain(alloc, &step, area, &mut marks)?;

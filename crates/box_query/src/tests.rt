@@ -1,78 +1,26 @@
 //! Boxes beside answers that were worked out by hand.
-ghost use Rattle.std.specs.Prelude.{◌≡◌, ◌<◌, IfOk};
-ghost use Rattle.std.specs.Arc.{arc_value};
-ghost use Rattle.topo.specs.Topology.{IsTopologyOf};
+ghost use Rattle.std.specs.Prelude.{◌≡◌, ◌<◌};
 
 use super::*;
 use box_crawl::{Marks, crawl};
-use mesh_base::{BoxQ, Cell, CellList, Mesh, NoMemory, Point, PointList, Route, VertexList};
+use job_steps::first_step;
+use mesh_base::{BoxQ, NoMemory, Route, VertexList};
 use probe_walk::{Probed, probe};
-use run_script::{Job, PlanList, Script, ScriptFault, SessionList};
+use run_script::Job;
+use sample_meshes::{SPLIT_CELLS, SPLIT_PLACES, area_of, mesh_of};
 use std::alloc::Global;
 use std::marker::Brand;
 use std::sync::Arc;
 use std::sync::ledger::{Blank, Ledger};
 use std::test::Fail;
 use step_view::{Step, Steps};
-use topo::{Positions, Shape, Topo};
 
-fn mesh_of(alloc: Global, places: &[[i32; 3]], corners: &[[u32; 4]]) -> Result<Mesh, Fail> {
-    let mut points = Vec::new(alloc);
-    for [x, y, z] in places {
-        points.push(Point::new(*x, *y, *z).ok_or("place")?)?;
-    }
-    let mut cells = Vec::new(alloc);
-    for four in corners {
-        cells.push(Cell::new(*four))?;
-    }
-    Ok(Mesh::new(PointList::of(points), CellList::of(cells)).ok_or("mesh")?)
-}
-
-// A job that makes no steps.
-fn job_of(alloc: Global, mesh: Mesh) -> Result<Job, ScriptFault> {
-    let plans = PlanList::of(Vec::new(alloc));
-    let sessions = SessionList::of(Vec::new(alloc));
-    Job::check(alloc, mesh, Script::of(1, plans, sessions))
-}
-
-fn shape_of(alloc: Global, job: &Job) -> Result<Arc<Shape>, NoMemory>
-    ensures { IfOk result (λ shape. IsTopologyOf job.now.mesh (arc_value shape)) }
-{
-    let mesh = job.mesh();
-    let cells = CellList::of(mesh.cells().to_vec(alloc)?);
-    let topo = Topo::build(alloc, mesh.points().len() as u32, cells)?;
-    topo.freeze(alloc)
-}
-
-fn places_of(alloc: Global, job: &Job) -> Result<Arc<Positions>, NoMemory>
-    ensures { IfOk result (λ places. arc_value places ≡ job.now.mesh.points) }
-{
-    let points = job.mesh().points().to_vec(alloc)?;
-    Positions::of(alloc, PointList::of(points))
-}
-
-// Step 0 of a job.
-fn first_of(alloc: Global, job: Job) -> Result<Step, NoMemory> {
-    let shape = shape_of(alloc, &job)?;
-    let places = places_of(alloc, &job)?;
-    let job = Arc::new(alloc, job)?;
-    Ok(Step::new(job, 0, shape, places))
-}
-
+// Step 0 of a job that makes no steps.
 fn step_of(alloc: Global, places: &[[i32; 3]], corners: &[[u32; 4]]) -> Result<Step, Fail> {
-    let mesh = mesh_of(alloc, places, corners)?;
-    match job_of(alloc, mesh) {
-        Ok(job) => Ok(first_of(alloc, job)?),
-        Err(_) => Err(Fail::new("job")),
-    }
-}
-
-fn area_of(lo: [i32; 3], hi: [i32; 3]) -> Result<BoxQ, Fail> {
-    let [x, y, z] = lo;
-    let lo = Point::new(x, y, z).ok_or("low corner")?;
-    let [x, y, z] = hi;
-    let hi = Point::new(x, y, z).ok_or("high corner")?;
-    Ok(BoxQ::new(lo, hi).ok_or("box")?)
+    let mesh = mesh_of(alloc, places, corners)?.ok_or("mesh")?;
+    let job = Job::still(alloc, mesh)?;
+    let (step, _maker) = first_step(alloc, Arc::new(alloc, job)?)?;
+    Ok(step)
 }
 
 // The answer of a box, with new marks.
@@ -83,30 +31,8 @@ fn answer_of(
     hi: [i32; 3],
 ) -> Result<(Route, VertexList), Fail> {
     let mut marks = Marks::new(alloc, step.points())?;
-    Ok(answer_plain(alloc, step, &area_of(lo, hi)?, &mut marks)?)
+    Ok(answer_plain(alloc, step, &area_of(&lo, &hi).ok_or("box")?, &mut marks)?)
 }
-
-// A cell that was split round 4, of which a quarter was split round 5. Of the cells two are absent.
-const SPLIT_PLACES: [[i32; 3]; 6] = [
-    [0, 0, 0],
-    [16, 0, 0],
-    [0, 16, 0],
-    [0, 0, 16],
-    [4, 4, 4],
-    [2, 6, 3],
-];
-
-const SPLIT_CELLS: [[u32; 4]; 9] = [
-    [0, 0, 0, 0],
-    [4, 1, 2, 3],
-    [0, 0, 0, 0],
-    [0, 1, 4, 3],
-    [0, 1, 2, 4],
-    [5, 4, 2, 3],
-    [0, 5, 2, 3],
-    [0, 4, 5, 3],
-    [0, 4, 2, 5],
-];
 
 const CORNER_PLACES: [[i32; 3]; 5] = [[0, 0, 0], [4, 0, 0], [0, 4, 0], [0, 0, 4], [1, 1, 1]];
 
@@ -248,7 +174,7 @@ fn scanned_and_crawled<L: Ledger>(
 fn crawls_at_the_last_rounds(rt: HostRuntime) -> Result<(), Fail> {
     let alloc = rt.alloc();
     let step = step_of(alloc, &SPLIT_PLACES, &SPLIT_CELLS)?;
-    let area = area_of([2, 0, 0], [16, 16, 16])?;
+    let area = area_of(&[2, 0, 0], &[16, 16, 16]).ok_or("box")?;
     for round in [0, u32::MAX - 1, u32::MAX] {
         let blank = Blank::new(1);
         let (all, first, second) = scanned_and_crawled::<Brand>(alloc, blank, &step, &area, round)?;

@@ -22,7 +22,7 @@ pub struct Corners {
     high_z: i32,
 }
 
-/// The corners of this box.
+// The corners of this box.
 fn corners_at(area: &BoxQ) -> Corners
     ensures { result ≡ corners_of area.now }
 {

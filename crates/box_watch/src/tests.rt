@@ -1,22 +1,12 @@
 //! Watches of small runs on one tetrahedron, beside texts written by hand.
 use super::*;
-use mesh_base::{Cell, CellList, Mesh, Point, PointList};
 use run_script::Job;
+use sample_meshes::one_cell;
 use script_format::read_script;
 use std::alloc::Global;
 use std::sync::Arc;
 use std::test::Fail;
 use step_registry::{CoreEnd, CoreStop, Event, PlainWork, Registry, core_run};
-
-fn sample(alloc: Global) -> Result<Mesh, Fail> {
-    let mut points = Vec::new(alloc);
-    for (x, y, z) in [(0, 0, 0), (4, 0, 0), (0, 4, 0), (0, 0, 4)] {
-        points.push(Point::new(x, y, z).ok_or("place")?)?;
-    }
-    let cells = vec![in alloc; Cell::new([0, 1, 2, 3])]?;
-    let mesh = Mesh::new(PointList::of(points), CellList::of(cells)).ok_or("limits")?;
-    Ok(mesh)
-}
 
 fn job_of(alloc: Global, script: &str) -> Result<Arc<Job>, Fail> {
     let text = script.as_bytes();
@@ -27,7 +17,7 @@ fn job_of(alloc: Global, script: &str) -> Result<Arc<Job>, Fail> {
         Ok(script) => script,
         Err(fault) => return Err(Fail::new(format_args!("{fault:?}"))),
     };
-    match Job::check(alloc, sample(alloc)?, script) {
+    match Job::check(alloc, one_cell(alloc)?, script) {
         Ok(job) => Ok(Arc::new(alloc, job)?),
         Err(fault) => Err(Fail::new(format_args!("{fault:?}"))),
     }

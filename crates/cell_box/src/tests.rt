@@ -1,96 +1,23 @@
 //! Cells beside lists that were worked out by hand.
-ghost use Rattle.std.specs.Prelude.{◌≡◌, IfOk};
-ghost use Rattle.std.specs.Arc.{arc_value};
-ghost use Rattle.topo.specs.Topology.{IsTopologyOf};
 
 use super::*;
 use box_crawl::Marks;
-use mesh_base::{BoxQ, Cell, CellList, Mesh, NoMemory, Point, PointList, Route};
-use run_script::{Job, PlanList, Script, ScriptFault, SessionList};
+use job_steps::first_step;
+use mesh_base::{BoxQ, NoMemory, Route};
+use run_script::Job;
+use sample_meshes::{SPLIT_CELLS, SPLIT_PLACES, area_of, mesh_of};
 use std::alloc::Global;
 use std::sync::Arc;
 use std::test::Fail;
 use step_view::Step;
-use topo::{Positions, Shape, Topo};
 
-fn mesh_of(alloc: Global, places: &[[i32; 3]], corners: &[[u32; 4]]) -> Result<Mesh, Fail> {
-    let mut points = Vec::new(alloc);
-    for [x, y, z] in places {
-        points.push(Point::new(*x, *y, *z).ok_or("place")?)?;
-    }
-    let mut cells = Vec::new(alloc);
-    for four in corners {
-        cells.push(Cell::new(*four))?;
-    }
-    Ok(Mesh::new(PointList::of(points), CellList::of(cells)).ok_or("mesh")?)
-}
-
-// A job that makes no steps.
-fn job_of(alloc: Global, mesh: Mesh) -> Result<Job, ScriptFault> {
-    let plans = PlanList::of(Vec::new(alloc));
-    let sessions = SessionList::of(Vec::new(alloc));
-    Job::check(alloc, mesh, Script::of(1, plans, sessions))
-}
-
-fn shape_of(alloc: Global, job: &Job) -> Result<Arc<Shape>, NoMemory>
-    ensures { IfOk result (λ shape. IsTopologyOf job.now.mesh (arc_value shape)) }
-{
-    let mesh = job.mesh();
-    let cells = CellList::of(mesh.cells().to_vec(alloc)?);
-    let topo = Topo::build(alloc, mesh.points().len() as u32, cells)?;
-    topo.freeze(alloc)
-}
-
-fn places_of(alloc: Global, job: &Job) -> Result<Arc<Positions>, NoMemory>
-    ensures { IfOk result (λ places. arc_value places ≡ job.now.mesh.points) }
-{
-    let points = job.mesh().points().to_vec(alloc)?;
-    Positions::of(alloc, PointList::of(points))
-}
-
-// Step 0 of a job.
-fn first_of(alloc: Global, job: Job) -> Result<Step, NoMemory> {
-    let shape = shape_of(alloc, &job)?;
-    let places = places_of(alloc, &job)?;
-    let job = Arc::new(alloc, job)?;
-    Ok(Step::new(job, 0, shape, places))
-}
-
+// Step 0 of a job that makes no steps.
 fn step_of(alloc: Global, places: &[[i32; 3]], corners: &[[u32; 4]]) -> Result<Step, Fail> {
-    let mesh = mesh_of(alloc, places, corners)?;
-    match job_of(alloc, mesh) {
-        Ok(job) => Ok(first_of(alloc, job)?),
-        Err(_) => Err(Fail::new("job")),
-    }
+    let mesh = mesh_of(alloc, places, corners)?.ok_or("mesh")?;
+    let job = Job::still(alloc, mesh)?;
+    let (step, _maker) = first_step(alloc, Arc::new(alloc, job)?)?;
+    Ok(step)
 }
-
-fn area_of(lo: [i32; 3], hi: [i32; 3]) -> Result<BoxQ, Fail> {
-    let [x, y, z] = lo;
-    let lo = Point::new(x, y, z).ok_or("low corner")?;
-    let [x, y, z] = hi;
-    let hi = Point::new(x, y, z).ok_or("high corner")?;
-    Ok(BoxQ::new(lo, hi).ok_or("box")?)
-}
-
-// A cell that was split round 4, of which a quarter was split round 5.
-const SPLIT_PLACES: [[i32; 3]; 6] = [
-    [0, 0, 0],
-    [16, 0, 0],
-    [0, 16, 0],
-    [0, 0, 16],
-    [4, 4, 4],
-    [2, 6, 3],
-];
-
-const SPLIT_CELLS: [[u32; 4]; 7] = [
-    [4, 1, 2, 3],
-    [0, 1, 4, 3],
-    [0, 1, 2, 4],
-    [5, 4, 2, 3],
-    [0, 5, 2, 3],
-    [0, 4, 5, 3],
-    [0, 4, 2, 5],
-];
 
 // The cells of a box, with new marks.
 fn cells_of_box(
@@ -102,7 +29,7 @@ fn cells_of_box(
 ) -> Result<(Route, CellNumbers), Fail> {
     let mut marks = Marks::new(alloc, step.points())?;
     let incidence = Incidence::build(alloc, step)?;
-    Ok(cells_in(alloc, step, &incidence, &area_of(lo, hi)?, &mut marks, how)?)
+    Ok(cells_in(alloc, step, &incidence, &area_of(&lo, &hi).ok_or("box")?, &mut marks, how)?)
 }
 
 #[test]

@@ -5,8 +5,9 @@ ghost use Rattle.hop_rings.specs.Rings.{AreRingsOfOne};
 use super::*;
 use box_crawl::Marks;
 use job_steps::first_step;
-use mesh_base::{BoxQ, Cell, CellList, Mesh, Point, PointList, Route, VertexList};
+use mesh_base::{Route, VertexList};
 use run_script::Job;
+use sample_meshes::{SPLIT_CELLS, SPLIT_PLACES, area_of, mesh_of};
 use std::alloc::Global;
 use std::sync::Arc;
 use std::test::Fail;
@@ -24,30 +25,10 @@ struct Row {
     paths: &'static [(u32, Option<&'static [u32]>)],
 }
 
-// A cell that was split round 4, of which a quarter was split round 5.
-const SPLIT_PLACES: &[[i32; 3]] = &[
-    [0, 0, 0],
-    [16, 0, 0],
-    [0, 16, 0],
-    [0, 0, 16],
-    [4, 4, 4],
-    [2, 6, 3],
-];
-
-const SPLIT_CELLS: &[[u32; 4]] = &[
-    [4, 1, 2, 3],
-    [0, 1, 4, 3],
-    [0, 1, 2, 4],
-    [5, 4, 2, 3],
-    [0, 5, 2, 3],
-    [0, 4, 5, 3],
-    [0, 4, 2, 5],
-];
-
 const ROWS: &[Row] = &[
     Row {
-        places: SPLIT_PLACES,
-        cells: SPLIT_CELLS,
+        places: &SPLIT_PLACES,
+        cells: &SPLIT_CELLS,
         lo: [4, 4, 4],
         hi: [4, 4, 4],
         most: 2,
@@ -60,8 +41,8 @@ const ROWS: &[Row] = &[
         paths: &[(4, Some(&[4])), (5, Some(&[4, 5]))],
     },
     Row {
-        places: SPLIT_PLACES,
-        cells: SPLIT_CELLS,
+        places: &SPLIT_PLACES,
+        cells: &SPLIT_CELLS,
         lo: [16, 0, 0],
         hi: [16, 0, 0],
         most: 2,
@@ -70,8 +51,8 @@ const ROWS: &[Row] = &[
         paths: &[(5, Some(&[1, 0, 5])), (3, Some(&[1, 3])), (6, None)],
     },
     Row {
-        places: SPLIT_PLACES,
-        cells: SPLIT_CELLS,
+        places: &SPLIT_PLACES,
+        cells: &SPLIT_CELLS,
         lo: [100, 100, 100],
         hi: [101, 101, 101],
         most: 1,
@@ -108,25 +89,9 @@ const ROWS: &[Row] = &[
     },
 ];
 
-fn point_of(place: [i32; 3]) -> Result<Point, Fail> {
-    let [x, y, z] = place;
-    Ok(Point::new(x, y, z).ok_or("place")?)
-}
-
-fn mesh_of(alloc: Global, row: &Row) -> Result<Mesh, Fail> {
-    let mut points = Vec::new(alloc);
-    for place in row.places {
-        points.push(point_of(*place)?)?;
-    }
-    let mut cells = Vec::new(alloc);
-    for four in row.cells {
-        cells.push(Cell::new(*four))?;
-    }
-    Ok(Mesh::new(PointList::of(points), CellList::of(cells)).ok_or("mesh")?)
-}
-
 fn step_of(alloc: Global, row: &Row) -> Result<Step, Fail> {
-    let job = Job::still(alloc, mesh_of(alloc, row)?);
+    let mesh = mesh_of(alloc, row.places, row.cells)?.ok_or("mesh")?;
+    let job = Job::still(alloc, mesh)?;
     let (step, _maker) = first_step(alloc, Arc::new(alloc, job)?)?;
     Ok(step)
 }
@@ -135,7 +100,7 @@ fn rings_of(alloc: Global, row: &Row) -> Result<(Route, RingList), Fail>
     ensures { IfOk result (λ r. AreRingsOfOne r.1) }
 {
     let step = step_of(alloc, row)?;
-    let area = BoxQ::new(point_of(row.lo)?, point_of(row.hi)?).ok_or("box")?;
+    let area = area_of(&row.lo, &row.hi).ok_or("box")?;
     let mut marks = Marks::new(alloc, step.points())?;
     Ok(rings_round(alloc, &step, &area, &mut marks, row.most as u32)?)
 }

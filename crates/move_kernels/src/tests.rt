@@ -1,6 +1,7 @@
 //! The motions of small meshes beside places that were worked out by hand, and of a block alone and in threads.
 use crate::{moved, moved_par};
-use mesh_base::{Axis, Cell, CellList, Kernel, Mesh, Point, PointList};
+use mesh_base::{Axis, CellList, Kernel, Mesh, Point, PointList};
+use sample_meshes::{block_mesh, mesh_of};
 use std::alloc::Global;
 use std::sync::Arc;
 use std::test::Fail;
@@ -27,22 +28,19 @@ fn points(alloc: Global, places: &[[i32; 3]]) -> Result<Vec<Point>, Fail> {
     Ok(list)
 }
 
-fn scene_of(alloc: Global, places: Vec<Point>, cells: &[Option<Cell>]) -> Result<Scene, Fail> {
-    let mesh = Mesh::new(PointList::of(places), CellList::of(cells.to_vec(alloc)?)).ok_or(
-        "limits",
-    )?;
+fn scene_of(alloc: Global, mesh: &Mesh) -> Result<Scene, Fail> {
     let count = mesh.points().len() as u32;
     let cells = CellList::of(mesh.cells().to_vec(alloc)?);
-    let places = PointList::of(mesh.points().to_vec(alloc)?);
     Ok(Scene {
         shape: Topo::build(alloc, count, cells)?.freeze(alloc)?,
-        old: Positions::of(alloc, places)?,
+        old: Positions::copied(alloc, mesh.points())?,
     })
 }
 
-// The tetrahedron between these four places.
+// The tetrahedron between the first four of these places.
 fn one_cell(alloc: Global, places: &[[i32; 3]]) -> Result<Scene, Fail> {
-    scene_of(alloc, points(alloc, places)?, &[Cell::new([0, 1, 2, 3])])
+    let mesh = mesh_of(alloc, places, &[[0, 1, 2, 3]])?.ok_or("mesh")?;
+    scene_of(alloc, &mesh)
 }
 
 // Where the kernel puts the points in the first step.
@@ -149,11 +147,8 @@ fn points_go_where_the_kernels_say(rt: HostRuntime) -> Result<(), Fail> {
 #[test]
 fn spare_points_do_not_relax(rt: HostRuntime) -> Result<(), Fail> {
     let alloc = rt.alloc();
-    let places = points(
-        alloc,
-        &[[0, 0, 0], [4, 0, 0], [0, 4, 0], [0, 0, 4], [9, 9, 9]],
-    )?;
-    let scene = scene_of(alloc, places, &[Cell::new([0, 1, 2, 3])])?;
+    let places = [[0, 0, 0], [4, 0, 0], [0, 4, 0], [0, 0, 4], [9, 9, 9]];
+    let scene = one_cell(alloc, &places)?;
     let wanted = points(
         alloc,
         &[[1, 1, 1], [0, 1, 1], [1, 0, 1], [1, 1, 0], [9, 9, 9]],
@@ -165,50 +160,10 @@ fn spare_points_do_not_relax(rt: HostRuntime) -> Result<(), Fail> {
     Ok(())
 }
 
-// The six cells of a cube whose least corner is p, where its rows are y apart and its layers z.
-fn cube(p: u32, y: u32, z: u32) -> [[u32; 4]; 6] {
-    let x = p.wrapping_add(1);
-    let xy = x.wrapping_add(y);
-    let xz = x.wrapping_add(z);
-    let yz = p.wrapping_add(y).wrapping_add(z);
-    let q = xy.wrapping_add(z);
-    let y = p.wrapping_add(y);
-    let z = p.wrapping_add(z);
-    [
-        [p, x, xy, q],
-        [p, x, xz, q],
-        [p, y, xy, q],
-        [p, y, yz, q],
-        [p, z, xz, q],
-        [p, z, yz, q],
-    ]
-}
-
-// A block of 10 cubes a side, each 16 long.
-fn block(alloc: Global) -> Result<Scene, Fail> {
-    let mut places = Vec::new(alloc);
-    let mut cells = Vec::new(alloc);
-    let mut p = 0u32;
-    for k in 0..11i32 {
-        for j in 0..11i32 {
-            for i in 0..11i32 {
-                places.push(point([i, j, k].map(|c| c.wrapping_mul(16)))?)?;
-                if i < 10 && j < 10 && k < 10 {
-                    for four in cube(p, 11, 121) {
-                        cells.push(Cell::new(four))?;
-                    }
-                }
-                p = p.wrapping_add(1);
-            }
-        }
-    }
-    scene_of(alloc, places, &cells)
-}
-
 #[test]
 fn threads_give_the_same_places(rt: HostRuntime) -> Result<(), Fail> {
     let alloc = rt.alloc();
-    let scene = block(alloc)?;
+    let scene = scene_of(alloc, &block_mesh(alloc, 10)?)?;
     let to = point([7, -5, 1000])?;
     for kernel in [
         Kernel::Stay,

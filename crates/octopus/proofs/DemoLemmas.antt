@@ -22,7 +22,7 @@ use Rattle.report.specs.Last.{NeedsLast, answered_last}
 use Rattle.report.specs.Report.{listed}
 use Rattle.report.proofs.Written.{listed-is}
 use Rattle.report.proofs.Latest.{listed-last}
-use Rattle.octopus.specs.Block.{block}
+use Rattle.sample_meshes.specs.Block.{block}
 use Rattle.octopus.specs.Lines.{line}
 use Rattle.octopus.specs.Demo.{demo_steps, demo_sessions, demo_boxes, whole_box, half_box, middle_box, demo_plan, demo_items, demo_script, demo_job, box_words, demo_line, demo_head, demo_text, answer_words, line_by, lines_by, summary_by}
 

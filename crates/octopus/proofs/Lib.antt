@@ -1,5 +1,4 @@
 pub mod Known
-mod BlockRoom
 mod Headline
 pub mod OpenLaws
 mod DemoLemmas

@@ -13,7 +13,7 @@ use Rattle.run_script.specs.declared.script.Item.TheVariants as item
 use Rattle.run_script.specs.Scripts.{ScriptView}
 use Rattle.run_script.specs.Jobs.{JobView, job_of, step_at}
 use Rattle.step_registry.specs.Lines.{of_session}
-use Rattle.octopus.specs.Block.{block}
+use Rattle.sample_meshes.specs.Block.{block}
 use Rattle.octopus.specs.Lines.{line, route_word}
 
 -- how many steps there are, and how many sessions

@@ -17,7 +17,7 @@ use Rattle.cell_box.specs.Cells.{cells_by}
 use Rattle.octopus.specs.declared.words.Command.TheVariants.{Scan, Surface, Gen, Step, Upgrade, Box, Cells, Rings}
 use Rattle.octopus.specs.declared.refusal.Refusal.{Refusal}
 use Rattle.octopus.specs.declared.refusal.Refusal.TheVariants as refusals
-use Rattle.octopus.specs.Block.{block}
+use Rattle.sample_meshes.specs.Block.{block}
 use Rattle.octopus.specs.declared.words.Played.{Played}
 use Rattle.octopus.specs.declared.words.Played.TheVariants.{Run, Demo, Watch}
 use Rattle.octopus.specs.Words.{command_of, played_of}

@@ -10,4 +10,3 @@ pub mod Opened
 pub mod Outcomes
 pub mod Codes
 pub mod Failures
-pub mod Block

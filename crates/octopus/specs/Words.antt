@@ -11,7 +11,7 @@ use Rattle.octopus.specs.declared.words.Command.{Command}
 use Rattle.octopus.specs.declared.words.Command.TheVariants as commands
 use Rattle.octopus.specs.declared.words.Played.{Played}
 use Rattle.octopus.specs.declared.words.Played.TheVariants as played
-use Rattle.octopus.specs.Block.{most_side}
+use Rattle.sample_meshes.specs.Block.{most_side}
 use Rattle.octopus.specs.Rings.{most_hops}
 
 -- the coordinate that a word spells: a signed number from -2^30 to 2^30

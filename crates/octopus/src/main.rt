@@ -5,7 +5,6 @@ ghost use Rattle.std.specs.Prelude.{◌≡◌};
 ghost use Rattle.std.specs.Process.{exit_status};
 ghost use Rattle.octopus.specs.Codes.{code_of};
 
-mod block;
 mod commands;
 mod deliver;
 mod demo_job;

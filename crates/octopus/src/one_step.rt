@@ -13,7 +13,7 @@ use step_view::Step;
 pub fn only_step(alloc: Global, mesh: Mesh) -> Result<Step, NoMemory>
     ensures { IfOk result (λ step. step.mesh ≡ mesh) }
 {
-    let job = Job::still(alloc, mesh);
+    let job = Job::still(alloc, mesh)?;
     let (step, _maker) = first_step(alloc, Arc::new(alloc, job)?)?;
     Ok(step)
 }

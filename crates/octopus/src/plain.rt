@@ -88,7 +88,8 @@ pub fn plain<F: Folder, K: Sink>(
     ensures read_whole { IsBadText result → IsAtEnd (F.rest folder.new) }
     ensures read_past { ReadsPast (F.files folder.old) (due (map string_bytes words.now)) result (F.rest folder.new) }
 
-    // Each file that the words name is opened once at most, and the script only where the mesh was accepted.
+    // Files are opened no more often than the words name some, and once where the folder tells its files and the mesh isn't
+    // accepted.
     ensures opens { F.opened folder.new ≤ F.opened folder.old + most_opened (map string_bytes words.now) (F.files folder.old) }
 
     // Where the outside did not fail, the status is what is due, or want of memory.

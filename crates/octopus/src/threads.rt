@@ -80,8 +80,9 @@ fn do_all<R: Threads + Wait + Sync, F: Folder, K: Sink, G: Gate>(
 /// refusal.
 ///
 /// A run that is done has written the report of one whole legal history of published and pinned steps, for every mesh file,
-/// script and interleaving (`headline`), and a watch what entered and left each box along such a history (`watched`). The text is made whole before its first byte is written, so a run that memory or a
-/// read cuts short writes nothing, and a write that fails leaves a front of such a report.
+/// script and interleaving (`headline`), and a watch what entered and left each box along such a history (`watched`). The text
+/// is made whole before its first byte is written, so a run that memory or a read cuts short writes nothing, and a write that
+/// fails leaves a front of such a report.
 ///
 /// The workers of a run wait for each other, so nothing promises that the call returns. `gate` is called at certain places of
 /// their work, by which a test may lead a run; a program passes `NoGate`. The memory is that of `plain`, with the steps that
@@ -117,7 +118,8 @@ pub fn octopus<R: Threads + Wait + Sync, F: Folder, K: Sink, G: Gate>(
     ensures read_whole { IsBadText result → IsAtEnd (F.rest folder.new) }
     ensures read_past { ReadsPast (F.files folder.old) (due_with_threads (map string_bytes words.now)) result (F.rest folder.new) }
 
-    // Each file that the words name is opened once at most, and the script only where the mesh was accepted.
+    // Files are opened no more often than the words name some, and once where the folder tells its files and the mesh isn't
+    // accepted.
     ensures opens { F.opened folder.new ≤ F.opened folder.old + most_opened_with_threads (map string_bytes words.now) (F.files folder.old) }
 
     // Where the outside did not fail, the status is what is due, or want of memory.

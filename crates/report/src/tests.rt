@@ -1,29 +1,23 @@
 //! Reports written by hand, of jobs, answers and journals that stand here.
 use super::*;
 use crate::text::text_of;
-use mesh_base::{Answer, Cell, CellList, Mesh, Point, PointList, Route, VertexList};
+use mesh_base::{Answer, Route, VertexList};
 use run_script::Job;
+use sample_meshes::one_cell;
 use script_format::read_script;
 use std::alloc::{AllocError, Global};
 use std::process::Abort;
 use std::test::Fail;
 use step_registry::Event;
 
-/// The job of a script on one tetrahedron.
+// The job of a script on one tetrahedron.
 fn job_of(rt: &impl Abort, alloc: Global, script: &str) -> Result<Job, Fail> {
-    let mut points = Vec::new(alloc);
-    for (x, y, z) in [(0, 0, 0), (4, 0, 0), (0, 4, 0), (0, 0, 4)] {
-        points.push(Point::new(x, y, z).expect(rt, "in range"))?;
-    }
-    let mut cells = Vec::new(alloc);
-    cells.push(Cell::new([0, 1, 2, 3]))?;
-    let mesh = Mesh::new(PointList::of(points), CellList::of(cells));
     assert!(rt; script.len() < 1000);
     let script = read_script(alloc, script.as_bytes())?;
-    Ok(Job::check(alloc, mesh.expect(rt, "a mesh"), script)?)
+    Ok(Job::check(alloc, one_cell(alloc)?, script)?)
 }
 
-/// An answer of session 0.
+// An answer of session 0.
 fn answer(
     alloc: Global,
     query: u32,

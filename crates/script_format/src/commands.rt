@@ -45,7 +45,7 @@ pub fn command(version: u32, word: &[u8]) -> Result<Command, ScriptKind>
 
 ghost use Rattle.script_format.specs.ScriptText.{session_commands};
 
-/// A command of sessions that is spelled so, or `end`.
+// A command of sessions that is spelled so, or `end`.
 fn session_command(version: u32, word: &[u8]) -> Result<Command, ScriptKind>
     ensures { result ≡ spelled (session_commands version) word.now }
 {

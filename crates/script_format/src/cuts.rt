@@ -18,28 +18,28 @@ fn is_space_byte(b: u8) -> bool
     b == b' ' || b == b'\t'
 }
 
-/// Where the first LF stands.
+// Where the first LF stands.
 fn line_end(text: &[u8]) -> Option<usize>
     ensures { result ≡ position is_lf text.now }
 {
     text.iter().position(|b| *b == b'\n')
 }
 
-/// Where the first space or tab stands.
+// Where the first space or tab stands.
 fn word_end(text: &[u8]) -> Option<usize>
     ensures { result ≡ position is_space text.now }
 {
     text.iter().position(|b| is_space_byte(*b))
 }
 
-/// Where the first byte stands that is no space and no tab.
+// Where the first byte stands that is no space and no tab.
 fn word_start(line: &[u8]) -> Option<usize>
     ensures { result ≡ position is_solid line.now }
 {
     line.iter().position(|b| !is_space_byte(*b))
 }
 
-/// The line without one CR at its end.
+// The line without one CR at its end.
 fn chomped(line: &[u8]) -> &[u8]
     ensures { result.now ≡ without_cr line.now }
 {
@@ -49,7 +49,7 @@ fn chomped(line: &[u8]) -> &[u8]
     }
 }
 
-/// The bytes behind the first ones.
+// The bytes behind the first ones.
 fn behind(bytes: &[u8], count: usize) -> &[u8]
     requires { count ≤ length bytes.now }
     ensures { result.now ≡ drop count bytes.now }

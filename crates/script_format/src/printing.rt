@@ -10,7 +10,7 @@ use oct_text::{NoMemory, put_number, put_text};
 use run_script::{Item, ItemList, LinedEdit, Plan, Script};
 use std::alloc::Global;
 
-/// Appends numbers, each behind a space.
+// Appends numbers, each behind a space.
 fn put_values(alloc: Global, out: &mut Vec<u8>, values: &[i64]) -> Result<(), NoMemory>
     ensures { OnOk result (out.new.items ≡ out.old.items ++ spaced (map signed_decimal values.now)) }
 {
@@ -21,7 +21,7 @@ fn put_values(alloc: Global, out: &mut Vec<u8>, values: &[i64]) -> Result<(), No
     Ok(())
 }
 
-/// Appends a line of a word and numbers.
+// Appends a line of a word and numbers.
 fn put_line(alloc: Global, out: &mut Vec<u8>, word: &[u8], values: &[i64]) -> Result<(), NoMemory>
     ensures { OnOk result (out.new.items ≡ out.old.items ++ line_spelling (word.now ∷ map signed_decimal values.now)) }
 {
@@ -30,7 +30,7 @@ fn put_line(alloc: Global, out: &mut Vec<u8>, word: &[u8], values: &[i64]) -> Re
     put_text(alloc, out, b"\n")
 }
 
-/// Appends the line of an edit.
+// Appends the line of an edit.
 fn put_edit(alloc: Global, out: &mut Vec<u8>, edit: &Edit) -> Result<(), NoMemory>
     ensures { OnOk result (out.new.items ≡ out.old.items ++ line_spelling (edit_words edit.now)) }
 {
@@ -57,7 +57,7 @@ fn put_edit(alloc: Global, out: &mut Vec<u8>, edit: &Edit) -> Result<(), NoMemor
     }
 }
 
-/// Appends the line of a motion.
+// Appends the line of a motion.
 fn put_kernel(alloc: Global, out: &mut Vec<u8>, kernel: &Kernel) -> Result<(), NoMemory>
     ensures { OnOk result (out.new.items ≡ out.old.items ++ line_spelling (kernel_words kernel.now)) }
 {
@@ -90,7 +90,7 @@ fn put_kernel(alloc: Global, out: &mut Vec<u8>, kernel: &Kernel) -> Result<(), N
     }
 }
 
-/// The coordinates of a box: those of the low corner, and those of the high one.
+// The coordinates of a box: those of the low corner, and those of the high one.
 fn box_values(area: &BoxQ) -> [i64; 6]
     ensures { result ≡ area.now.lo.0 ∷ area.now.lo.1 ∷ area.now.lo.2 ∷ area.now.hi.0 ∷ area.now.hi.1 ∷ area.now.hi.2 ∷ [] }
 {
@@ -106,7 +106,7 @@ fn box_values(area: &BoxQ) -> [i64; 6]
     ]
 }
 
-/// Appends the line of an item.
+// Appends the line of an item.
 fn put_item(alloc: Global, out: &mut Vec<u8>, item: &Item) -> Result<(), NoMemory>
     ensures { OnOk result (out.new.items ≡ out.old.items ++ item_line item.now) }
 {
@@ -118,7 +118,7 @@ fn put_item(alloc: Global, out: &mut Vec<u8>, item: &Item) -> Result<(), NoMemor
     }
 }
 
-/// Appends the lines of edits.
+// Appends the lines of edits.
 fn put_edits(alloc: Global, out: &mut Vec<u8>, edits: &[LinedEdit]) -> Result<(), NoMemory>
     ensures { OnOk result (out.new.items ≡ out.old.items ++ flat_map edit_line edits.now) }
 {
@@ -128,7 +128,7 @@ fn put_edits(alloc: Global, out: &mut Vec<u8>, edits: &[LinedEdit]) -> Result<()
     Ok(())
 }
 
-/// Appends the lines of plans.
+// Appends the lines of plans.
 fn put_plans(alloc: Global, out: &mut Vec<u8>, plans: &[Plan]) -> Result<(), NoMemory>
     ensures { OnOk result (out.new.items ≡ out.old.items ++ flat_map plan_spelling plans.now) }
 {
@@ -139,7 +139,7 @@ fn put_plans(alloc: Global, out: &mut Vec<u8>, plans: &[Plan]) -> Result<(), NoM
     Ok(())
 }
 
-/// Appends the lines of items.
+// Appends the lines of items.
 fn put_items(alloc: Global, out: &mut Vec<u8>, items: &[Item]) -> Result<(), NoMemory>
     ensures { OnOk result (out.new.items ≡ out.old.items ++ flat_map item_line items.now) }
 {
@@ -149,7 +149,7 @@ fn put_items(alloc: Global, out: &mut Vec<u8>, items: &[Item]) -> Result<(), NoM
     Ok(())
 }
 
-/// Appends the lines of sessions.
+// Appends the lines of sessions.
 fn put_sessions(alloc: Global, out: &mut Vec<u8>, sessions: &[ItemList]) -> Result<(), NoMemory>
     ensures { OnOk result (out.new.items ≡ out.old.items ++ flat_map session_spelling sessions.now) }
 {
@@ -160,7 +160,7 @@ fn put_sessions(alloc: Global, out: &mut Vec<u8>, sessions: &[ItemList]) -> Resu
     Ok(())
 }
 
-/// The text of a script.
+// The text of a script.
 #[tactic(auto, unfolding(crate::specs::Printed::script_spelling))]
 fn spell(alloc: Global, script: &Script) -> Result<Vec<u8>, NoMemory>
     ensures text { IfOk result (λ text. text.items ≡ script_spelling script.now) }

@@ -11,7 +11,7 @@ use crate::reading::Reading;
 use run_script::{Script, ScriptFault, ScriptKind};
 use std::alloc::Global;
 
-/// What stands behind the first word of a line, where that is this word.
+// What stands behind the first word of a line, where that is this word.
 fn behind_word<'a>(line: &'a [u8], word: &[u8]) -> Option<&'a [u8]>
     ensures { MatchOption result ((ws : List Word) → pointwise bytes_eq (words line.now) (word.now ∷ ws) ≡ false) (λ rest. Begins line.now word.now rest.now) }
 {
@@ -26,7 +26,7 @@ fn behind_word<'a>(line: &'a [u8], word: &[u8]) -> Option<&'a [u8]>
     }
 }
 
-/// Whether a line has this word alone.
+// Whether a line has this word alone.
 fn is_word(line: &[u8], word: &[u8]) -> bool
     ensures { result ≡ pointwise bytes_eq (words line.now) (word.now ∷ []) }
 {
@@ -44,7 +44,7 @@ fn bad_header<T>() -> Result<T, ScriptFault>
     Err(ScriptFault::Bad { kind, line })
 }
 
-/// The version that the first line gives.
+// The version that the first line gives.
 #[tactic(auto, unfolding(crate::specs::ScriptText::header))]
 fn header_of(line: &[u8]) -> Result<u32, ScriptFault>
     ensures agrees { Agrees result (header (words line.now)) }
@@ -65,7 +65,7 @@ fn header_of(line: &[u8]) -> Result<u32, ScriptFault>
     bad_header()
 }
 
-/// The script of the lines behind the first.
+// The script of the lines behind the first.
 fn read_rows(alloc: Global, version: u32, text: &[u8]) -> Result<Script, ScriptFault>
     requires small { length text.now + 1 < 2 ^ 32 }
     requires version { IsVersion version }

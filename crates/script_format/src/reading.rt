@@ -24,7 +24,7 @@ pub struct Reading {
     pub items: Vec<Item>,
 }
 
-/// Appends an edit.
+// Appends an edit.
 fn push_edit(edits: &mut Vec<LinedEdit>, line: u32, edit: Edit) -> Result<(), AllocError>
     ensures { OnOk result (edits.new.items ≡ edits.old.items ++ record { line = line; edit = edit } ∷ []) }
 {
@@ -37,7 +37,7 @@ impl Standing {
     ghost use Rattle.script_format.specs.Rows.{standing};
     ghost use Rattle.script_format.specs.Reading.{with_box, with_row, CountsAtMost};
 
-    /// Where no row came yet.
+    // Where no row came yet.
     fn first() -> Standing
         ensures { result ≡ standing [] }
     {
@@ -53,7 +53,7 @@ impl Standing {
         }
     }
 
-    /// With one more box.
+    // With one more box.
     fn with_box(self) -> Standing
         requires { CountsAtMost 4294967294 self }
         ensures { result ≡ with_box self }
@@ -66,7 +66,7 @@ impl Standing {
         next
     }
 
-    /// With one more edit.
+    // With one more edit.
     fn with_edit(self) -> Standing
         requires { CountsAtMost 4294967294 self }
         ensures { result ≡ record self { edits_wait = true; edits = self.edits + 1 } }
@@ -77,7 +77,7 @@ impl Standing {
         next
     }
 
-    /// With one more motion.
+    // With one more motion.
     fn with_move(self) -> Standing
         requires { CountsAtMost 4294967294 self }
         ensures { result ≡ record self { edits_wait = false; steps = self.steps + 1 } }
@@ -88,7 +88,7 @@ impl Standing {
         next
     }
 
-    /// With one more session.
+    // With one more session.
     fn with_session(self) -> Standing
         requires { CountsAtMost 4294967294 self }
         ensures { result ≡ record self { in_sessions = true; sessions = self.sessions + 1 } }
@@ -99,7 +99,7 @@ impl Standing {
         next
     }
 
-    /// With one more item.
+    // With one more item.
     fn with_item(self, item: &Item) -> Standing
         requires { CountsAtMost 4294967294 self }
         ensures { result ≡ with_row (Row.Does item.now) self }
@@ -136,7 +136,7 @@ impl Reading {
         }
     }
 
-    /// Takes an edit.
+    // Takes an edit.
     fn take_edit(&mut self, edit: LinedEdit) -> Result<(), ScriptFault>
         requires few { CountsAtMost 4294967294 self.old.standing }
         ensures stands { (before : List Row) → Stands before self.old → OnOk result (Stands (before ++ Row.Edit edit ∷ []) self.new) }
@@ -148,7 +148,7 @@ impl Reading {
         Ok(())
     }
 
-    /// Takes a motion, which ends a step.
+    // Takes a motion, which ends a step.
     fn take_move(&mut self, alloc: Global, kernel: Kernel) -> Result<(), ScriptFault>
         requires few { CountsAtMost 4294967294 self.old.standing }
         ensures stands { (before : List Row) → Stands before self.old → OnOk result (Stands (before ++ Row.Move kernel ∷ []) self.new) }
@@ -161,7 +161,7 @@ impl Reading {
         Ok(())
     }
 
-    /// Begins a session.
+    // Begins a session.
     fn take_session(&mut self, alloc: Global) -> Result<(), ScriptFault>
         requires few { CountsAtMost 4294967294 self.old.standing }
         ensures stands { (before : List Row) → Stands before self.old → OnOk result (Stands (before ++ Row.Session ∷ []) self.new) }
@@ -174,7 +174,7 @@ impl Reading {
         Ok(())
     }
 
-    /// Takes an item of the last session.
+    // Takes an item of the last session.
     fn take_item(&mut self, item: Item) -> Result<(), ScriptFault>
         requires few { CountsAtMost 4294967294 self.old.standing }
         ensures stands { (before : List Row) → Stands before self.old → OnOk result (Stands (before ++ Row.Does item ∷ []) self.new) }
@@ -186,7 +186,7 @@ impl Reading {
         Ok(())
     }
 
-    /// Ends the script.
+    // Ends the script.
     fn take_end(&mut self)
         ensures stands { (before : List Row) → Stands before self.old → Stands (before ++ Row.End ∷ []) self.new }
         ensures standing { self.new.standing ≡ with_row Row.End self.old.standing }
@@ -194,7 +194,7 @@ impl Reading {
         self.standing.has_ended = true;
     }
 
-    /// Takes one more row.
+    // Takes one more row.
     fn take_row(&mut self, alloc: Global, row: Row) -> Result<(), ScriptFault>
         requires few { CountsAtMost 4294967294 self.old.standing }
         ensures stands { (before : List Row) → Stands before self.old → OnOk result (Stands (before ++ row ∷ []) self.new) }

@@ -87,7 +87,7 @@ fn box_row(line: u32, values: &[u8]) -> Result<Row, ScriptKind>
     Ok(Row::Does { item })
 }
 
-/// The row of an edit, where the command is one.
+// The row of an edit, where the command is one.
 #[tactic(auto, unfolding(crate::specs::ScriptText::row_of))]
 fn point_row(line: u32, values: &[u8]) -> Result<Row, ScriptKind>
     ensures { result ≡ row_of line commands.Point (words values.now) }
@@ -131,7 +131,7 @@ fn wait_row(line: u32, values: &[u8]) -> Result<Row, ScriptKind>
     Ok(Row::Does { item })
 }
 
-/// The row of a line with this number, this command and these values.
+// The row of a line with this number, this command and these values.
 #[tactic(auto, unfolding(crate::specs::ScriptText::row_of))]
 fn row_of(line: u32, command: Command, values: &[u8]) -> Result<Row, ScriptKind>
     ensures { result ≡ row_of line command (words values.now) }
@@ -160,7 +160,7 @@ fn row_of(line: u32, command: Command, values: &[u8]) -> Result<Row, ScriptKind>
     }
 }
 
-/// The row of a line with this command, after the checks in their order.
+// The row of a line with this command, after the checks in their order.
 fn checked_row(line: u32, at: &Standing, values: &[u8], command: Command) -> Result<Row, ScriptKind>
     ensures { result ≡ checked_row line at.now (words values.now) command }
 {
@@ -176,7 +176,7 @@ fn checked_row(line: u32, at: &Standing, values: &[u8], command: Command) -> Res
     row_of(line, command, values)
 }
 
-/// Whether the first word of a line begins a comment.
+// Whether the first word of a line begins a comment.
 fn is_comment(word: &[u8]) -> bool
     ensures { result ≡ is_comment word.now }
 {

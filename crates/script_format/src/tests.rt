@@ -1,11 +1,12 @@
+//! Scripts that are read, refused and printed, and the jobs of some.
 use super::*;
-use mesh_base::{Cell, CellList, Mesh, Point, PointList};
 use run_script::{Job, ScriptFault, ScriptKind};
-use std::alloc::{AllocError, Global};
+use sample_meshes::one_cell;
+use std::alloc::Global;
 use std::process::Abort;
 use std::test::Fail;
 
-/// What reading a text gives: the kind and line of its fault, or `None`.
+// What reading a text gives: the kind and line of its fault, or `None`.
 fn fault(rt: &impl Abort, alloc: Global, text: &[u8]) -> Option<ScriptFault> {
     assert!(rt; text.len() < 20_000_000);
     match read_script(alloc, text) {
@@ -155,8 +156,8 @@ fn texts_that_are_read(rt: HostRuntime) {
     }
 }
 
-/// Checks the faults of all prefixes. Each row is for the lengths from that of the row before on to its own, and no prefix
-/// that is longer has a fault.
+// Checks the faults of all prefixes. Each row is for the lengths from that of the row before on to its own, and no prefix
+// that is longer has a fault.
 fn check_prefixes(rt: &impl Abort, alloc: Global, text: &str, table: &[(usize, ScriptKind, u32)]) {
     let text = text.as_bytes();
     for len in 0..text.len() + 1 {
@@ -242,7 +243,7 @@ fn limits_of_scripts(rt: HostRuntime) -> Result<(), Fail> {
     Ok(())
 }
 
-/// The text that is printed of the script that a text is.
+// The text that is printed of the script that a text is.
 fn printed(
     rt: &impl Abort,
     alloc: Global,
@@ -278,22 +279,10 @@ fn scripts_are_printed(rt: HostRuntime) -> Result<(), Fail> {
     Ok(())
 }
 
-/// One tetrahedron.
-fn sample(rt: &impl Abort, alloc: Global) -> Result<Mesh, AllocError> {
-    let mut points = Vec::new(alloc);
-    for (x, y, z) in [(0, 0, 0), (4, 0, 0), (0, 4, 0), (0, 0, 4)] {
-        points.push(Point::new(x, y, z).expect(rt, "in range"))?;
-    }
-    let mut cells = Vec::new(alloc);
-    cells.push(Cell::new([0, 1, 2, 3]))?;
-    let mesh = Mesh::new(PointList::of(points), CellList::of(cells));
-    Ok(mesh.expect(rt, "a mesh"))
-}
-
 fn job(rt: &impl Abort, alloc: Global, text: &[u8]) -> Result<Job, ScriptFault> {
     assert!(rt; text.len() < 1000);
     let script = read_script(alloc, text)?;
-    let mesh = sample(rt, alloc)?;
+    let mesh = one_cell(alloc)?;
     Job::check(alloc, mesh, script)
 }
 

@@ -86,7 +86,7 @@ pub fn index_at(values: &[u8]) -> Result<Natural<'_>, ScriptKind>
     natural_at(values, u32::MAX)
 }
 
-/// A coordinate.
+// A coordinate.
 fn coordinate_at(values: &[u8]) -> Result<Signed<'_>, ScriptKind>
     ensures reads { Reads (λ r. r.value) (λ r. r.rest.now) result (coordinate (words values.now)) }
     ensures in_range { IfOk result (λ r. IsCoordinate r.value) }

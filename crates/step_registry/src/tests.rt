@@ -7,23 +7,14 @@ use crate::plain::PlainWork;
 use crate::registry::Registry;
 use crate::stop::CoreStop;
 use crate::work::Work;
-use mesh_base::{Answer, Cell, CellList, Mesh, NoMemory, Point, PointList};
+use mesh_base::{Answer, NoMemory};
 use run_script::Job;
+use sample_meshes::one_cell;
 use script_format::read_script;
 use std::alloc::{AllocError, Global};
 use std::sync::Arc;
 use std::test::Fail;
 use step_view::Shares;
-
-fn sample(alloc: Global) -> Result<Mesh, Fail> {
-    let mut points = Vec::new(alloc);
-    for (x, y, z) in [(0, 0, 0), (4, 0, 0), (0, 4, 0), (0, 0, 4)] {
-        points.push(Point::new(x, y, z).ok_or("place")?)?;
-    }
-    let cells = vec![in alloc; Cell::new([0, 1, 2, 3])]?;
-    let mesh = Mesh::new(PointList::of(points), CellList::of(cells)).ok_or("limits")?;
-    Ok(mesh)
-}
 
 fn job_of(alloc: Global, script: &str) -> Result<Arc<Job>, Fail> {
     let text = script.as_bytes();
@@ -34,7 +25,7 @@ fn job_of(alloc: Global, script: &str) -> Result<Arc<Job>, Fail> {
         Ok(script) => script,
         Err(fault) => return Err(Fail::new(format_args!("{fault:?}"))),
     };
-    match Job::check(alloc, sample(alloc)?, script) {
+    match Job::check(alloc, one_cell(alloc)?, script) {
         Ok(job) => Ok(Arc::new(alloc, job)?),
         Err(fault) => Err(Fail::new(format_args!("{fault:?}"))),
     }

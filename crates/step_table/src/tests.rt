@@ -9,8 +9,9 @@ ghost use Rattle.step_table.specs.Seats.{published_of, closed_of};
 ghost use Rattle.step_table.specs.Tests.{Asks, IsReady, HasOut};
 
 use crate::{PublisherSeat, SessionSeat, SessionSeats, StepTable};
-use mesh_base::{AnswerList, Cell, CellList, Mesh, NoMemory, Point, PointList};
+use mesh_base::{AnswerList, NoMemory};
 use run_script::Job;
+use sample_meshes::one_cell;
 use script_format::read_script;
 use std::alloc::Global;
 use std::sync::{Arc, Wait};
@@ -23,13 +24,7 @@ const SCRIPT: &[u8] =
     b"octopus script 1\nstay\nsession\nbox 0 0 0 4 0 0\nsession\nbox 0 0 0 4 0 0\nend\n";
 
 fn small_job(alloc: Global) -> Result<Arc<Job>, Fail> {
-    let mut points = Vec::new(alloc);
-    for [x, y, z] in [[0, 0, 0], [4, 0, 0], [0, 4, 0], [0, 0, 4]] {
-        points.push(Point::new(x, y, z).ok_or("place")?)?;
-    }
-    let mut cells = Vec::new(alloc);
-    cells.push(Cell::new([0, 1, 2, 3]))?;
-    let mesh = Mesh::new(PointList::of(points), CellList::of(cells)).ok_or("mesh")?;
+    let mesh = one_cell(alloc)?;
     match read_script(alloc, SCRIPT) {
         Ok(script) => match Job::check(alloc, mesh, script) {
             Ok(job) => Ok(Arc::new(alloc, job)?),

@@ -6,7 +6,7 @@ ghost use Rattle.step_registry.specs.Lines.{of_session};
 ghost use Rattle.octopus.specs.Lines.{line};
 ghost use Rattle.octopus.specs.Demo.{answer_words, size_words, line_by, lines_by, summary_by, demo_head, demo_job, demo_text};
 
-use crate::block::Side;
+use sample_meshes::Side;
 use crate::demo_job::make_demo;
 use mesh_base::{Answer, Mesh, NoMemory};
 use oct_edge::Gate;

@@ -1,9 +1,9 @@
 //! The command `gen`.
 ghost use Rattle.std.specs.Prelude.{◌≡◌, IfOk};
 ghost use Rattle.vtk_legacy.specs.Written.{mesh_spelling};
-ghost use Rattle.octopus.specs.Block.{block};
+ghost use Rattle.sample_meshes.specs.Block.{block};
 
-use crate::block::{Side, block_mesh};
+use sample_meshes::{Side, block_mesh};
 use mesh_base::NoMemory;
 use std::alloc::Global;
 use vtk_legacy::write_mesh;

@@ -11,7 +11,7 @@ use std::sync::Wait;
 use std::test::Fail;
 use std::thread::Threads;
 
-/// The journal of one step and two turns that wait for it, in each of its orders.
+// The journal of one step and two turns that wait for it, in each of its orders.
 const TWO_TURNS: [&str; 5] = [
     "journal 6\npublish 1\nclose\npin 0 1\nunpin 0 1\npin 0 1\nunpin 0 1\nend\n",
     "journal 6\npublish 1\npin 0 1\nclose\nunpin 0 1\npin 0 1\nunpin 0 1\nend\n",
@@ -20,7 +20,7 @@ const TWO_TURNS: [&str; 5] = [
     "journal 6\npublish 1\npin 0 1\nunpin 0 1\npin 0 1\nunpin 0 1\nclose\nend\n",
 ];
 
-/// The mesh, the script, the report up to its journal, and the journal in each of its orders for this front.
+// The mesh, the script, the report up to its journal, and the journal in each of its orders for this front.
 const RUNS: [(&str, &str, &str, [&str; 5]); 4] = [
     (
         ONE,
@@ -66,7 +66,7 @@ const RUNS: [(&str, &str, &str, [&str; 5]); 4] = [
     ),
 ];
 
-/// Whether a text, or the front that there is of it, is that of a report of a run of these.
+// Whether a text, or the front that there is of it, is that of a report of a run of these.
 fn may_be(text: &[u8], mesh: &str, script: &str, whole: bool) -> bool {
     RUNS.iter().any(|(of, by, front, journals)| {
         *of == mesh
@@ -77,7 +77,7 @@ fn may_be(text: &[u8], mesh: &str, script: &str, whole: bool) -> bool {
     })
 }
 
-/// Whether a text is this front with this journal behind it, or begins it.
+// Whether a text is this front with this journal behind it, or begins it.
 fn is_text(text: &[u8], front: &str, journal: &str, whole: bool) -> bool {
     let (head, tail) = text.split_at(text.len().min(front.len()));
     let fits = front.as_bytes().starts_with(head) && journal.as_bytes().starts_with(tail);
@@ -96,7 +96,7 @@ fn reports(rt: HostRuntime) -> Result<(), Fail> {
     Ok(())
 }
 
-/// A write in the midst of a report fails: what was written begins a report.
+// A write in the midst of a report fails: what was written begins a report.
 #[test]
 fn reports_that_break_off(rt: HostRuntime) -> Result<(), Fail> {
     let alloc = rt.alloc();
@@ -111,11 +111,11 @@ fn reports_that_break_off(rt: HostRuntime) -> Result<(), Fail> {
     Ok(())
 }
 
-/// The watches of `ASKED_TWICE` on `ONE`, up to their journal.
+// The watches of `ASKED_TWICE` on `ONE`, up to their journal.
 const WATCHES: &str =
     "octopus watch 1\nsteps 1\nsessions 1\nsession 0 boxes 2\nbox 0 step 1 from - entered 2 left 0\n0 1\nbox 1 step 1 from 0 entered 0 left 0\n";
 
-/// The write that fails, if there is one, and the status.
+// The write that fails, if there is one, and the status.
 const WATCHED: [(u64, Status); 2] = [(1000, Status::Done), (19, Status::WriteFault)];
 
 #[test]
@@ -137,11 +137,11 @@ fn watches(rt: HostRuntime) -> Result<(), Fail> {
     Ok(())
 }
 
-/// The summary of the block of one cube with the seed 7.
+// The summary of the block of one cube with the seed 7.
 const DEMO: &str =
     "octopus demo\npoints 8 cells 6 steps 8 sessions 4\nsession 0 probe 8 probe 4 probe 1\nsession 1 probe 8 probe 4 probe 1\nsession 2 probe 8 probe 4 probe 1\nsession 3 probe 8 probe 4 probe 1\nend\n";
 
-/// The words, the mesh, the script, the status, and what is written.
+// The words, the mesh, the script, the status, and what is written.
 const PLAYED: [(&str, &str, &str, Status, &str); 13] = [
     ("demo 1 7", "", "", Status::Done, DEMO),
     ("demo 0 7", "", "", Status::Usage, "refused usage\n"),

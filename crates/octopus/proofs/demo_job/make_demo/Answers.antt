@@ -1,7 +1,7 @@
 use Rattle.std.proofs.Common.{ap, ◌∙◌, subst}
 use Rattle.run_script.specs.Outcome.{IsFault}
 use Rattle.run_script.specs.Jobs.{checked}
-use Rattle.octopus.specs.Block.{block}
+use Rattle.sample_meshes.specs.Block.{block}
 use Rattle.octopus.specs.Demo.{demo_script}
 use Rattle.octopus.proofs.DemoLemmas.{job-from, no-fault}
 use Rattle.octopus.proofs.demo_job.make_demo.Goals as goal

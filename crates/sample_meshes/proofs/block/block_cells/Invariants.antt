@@ -1,8 +1,8 @@
 use Rattle.std.proofs.Common.{◌≡◌, ◌+◌, map, Some}
 use Rattle.std.specs.List.{range_with_len}
 use Rattle.mesh_base.specs.Mesh.{AreWithin, AreAllDifferent}
-use Rattle.octopus.specs.Block.{block_cell, cubed}
-use Rattle.octopus.proofs.block.block_cells.Given as goal
+use Rattle.sample_meshes.specs.Block.{block_cell, cubed}
+use Rattle.sample_meshes.proofs.block.block_cells.Given as goal
 
 abbrev pub invariant-loop-t : goal.invariant-loop-t
 invariant-loop-t l =

@@ -1,8 +1,8 @@
 use Rattle.std.proofs.Common.{◌≡◌, ℕ, ◌*◌, ◌/◌, ◌%◌, ◌<◌, to_z, pos, w32, arith}
 use Rattle.std.proofs.Math.Nat.{mod-lt}
 use Rattle.std.proofs.lemmas.Int.{to_z_pos}
-use Rattle.octopus.proofs.BlockRoom.{layer}
-use Rattle.octopus.proofs.block.grid_point.Goals as goal
+use Rattle.sample_meshes.proofs.BlockRoom.{layer}
+use Rattle.sample_meshes.proofs.block.grid_point.Goals as goal
 
 -- a number of steps of 16 along a side
 steps : (side n : ℕ) → side < 89 → n < side → to_z w32 (16 * n) ≡ pos (16 * n)

@@ -3,8 +3,8 @@ use Rattle.std.specs.List.{range_with_len}
 use Rattle.std.proofs.lemmas.List.FromFn.{map-range_with_len_more}
 use Rattle.std.proofs.lemmas.List.Elements.{All-push, All-same}
 use Rattle.mesh_base.specs.Mesh.{Corners, IsWithin, AreDifferent}
-use Rattle.octopus.specs.Block.{block_cell, cubed}
-use Rattle.octopus.proofs.block.block_cells.Goals as goal
+use Rattle.sample_meshes.specs.Block.{block_cell, cubed}
+use Rattle.sample_meshes.proofs.block.block_cells.Goals as goal
 
 pub loop-t-preserved : goal.loop-t-preserved
 loop-t-preserved c =

@@ -1,8 +1,8 @@
 use Rattle.std.proofs.Common.{◌++◌, ◌∷◌, [], ap, sym, ◌∙◌, map, arith}
 use Rattle.std.specs.List.{range_with_len}
 use Rattle.std.proofs.lemmas.List.FromFn.{map-range_with_len_more}
-use Rattle.octopus.specs.Block.{grid_place}
-use Rattle.octopus.proofs.block.block_points.Goals as goal
+use Rattle.sample_meshes.specs.Block.{grid_place}
+use Rattle.sample_meshes.proofs.block.block_points.Goals as goal
 
 pub loop-v-preserved : goal.loop-v-preserved
 loop-v-preserved c =

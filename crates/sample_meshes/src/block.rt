@@ -2,7 +2,7 @@
 ghost use Rattle.std.specs.Prelude.{◌≡◌, ◌<◌, ◌≤◌, ◌+◌, ◌*◌, ℕ, IfOk, Some, None, map, nat_le, if◌then◌else◌};
 ghost use Rattle.std.specs.List.{range_with_len};
 ghost use Rattle.mesh_base.specs.Mesh.{IsWithin, AreWithin, AreDifferent, AreAllDifferent};
-ghost use Rattle.octopus.specs.Block.{block, block_cell, cubed, first_step, grid_place, low_corner, most_side, on_x, on_y, on_z, path_cell, second_step};
+ghost use Rattle.sample_meshes.specs.Block.{block, block_cell, cubed, first_step, grid_place, low_corner, most_side, on_x, on_y, on_z, path_cell, second_step};
 
 use mesh_base::{Cell, CellList, Mesh, NoMemory, Point, PointList};
 use std::alloc::Global;

@@ -2,9 +2,9 @@ use Rattle.std.proofs.Common.{◌≡◌, ◌+◌, ◌*◌, ap, sym, ◌∙◌, m
 use Rattle.std.specs.List.{range_with_len}
 use Rattle.std.proofs.lemmas.List.FromFn.{length-map-range_with_len}
 use Rattle.mesh_base.specs.Mesh.{IsMesh, AreWithin}
-use Rattle.octopus.specs.Block.{block, block_cell, cubed, grid_place}
-use Rattle.octopus.proofs.BlockRoom.{few_points, few_cells}
-use Rattle.octopus.proofs.block.block_mesh.Goals as goal
+use Rattle.sample_meshes.specs.Block.{block, block_cell, cubed, grid_place}
+use Rattle.sample_meshes.proofs.BlockRoom.{few_points, few_cells}
+use Rattle.sample_meshes.proofs.block.block_mesh.Goals as goal
 
 pub unreachable-requires : goal.unreachable-requires
 unreachable-requires c =

@@ -1,0 +1,2 @@
+mod BlockRoom
+mod ListedLaws
