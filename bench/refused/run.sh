@@ -6,8 +6,7 @@
 # Every run has to end by itself, either with status 3 and nothing written, or with its answer. It needs a C compiler and glibc.
 set -eu
 here=$(cd "$(dirname "$0")" && pwd)
-program=${1:-$here/../../crates/octopus/out/octopus}
-work=$(mktemp -d)
-trap 'rm -rf "$work"' EXIT
+. "$here/../parts.sh"
+program=${1:-$top/crates/octopus/out/octopus}
 "${CC:-cc}" -O2 -shared -fPIC -o "$work/refuse.so" "$here/refuse.c"
 python3 "$here/refused.py" "$program" "$work/refuse.so"
