@@ -1,18 +1,15 @@
 -- each face of a live cell is counted at one corner
-use Rattle.std.proofs.Common.{◌≡◌, ◌≢◌, ℕ, ◌+◌, ◌≤◌, min, max, Bool, true, false, cond, ltb, not, ◌&&◌, List, [], ◌∷◌, sum_by, count_by, Option, Some, None, IfSome, unwrap_or, refl, sym, ap, ◌∙◌, arith}
+use Rattle.std.proofs.Common.{◌≡◌, ◌≢◌, ℕ, ◌+◌, ◌≤◌, min, max, Bool, true, false, cond, ltb, not, ◌&&◌, List, [], ◌∷◌, sum_by, count_by, Option, Some, None, IfSome, refl, ap, ◌∙◌, arith}
 use Rattle.std.proofs.lemmas.Bool.Decides.{nat_tests}
 use Rattle.std.proofs.lemmas.List.Elements.{All-head, All-tail}
 use Rattle.std.proofs.lemmas.List.Filters.{sum_by-filter_both}
 use Rattle.std.proofs.lemmas.List.Sums.{sum_by-append}
-use Rattle.std.specs.Map.{lookup, keys_of}
-use Rattle.std.specs.List.{position_or_len}
-use Rattle.indexmap.specs.IndexMap.{insert_entry, set_value_at}
 use Rattle.mesh_base.specs.Mesh.{Face, Corners, AreDifferent, AreAllDifferent, face_of, middle, faces, face_eq, face_count}
 use Rattle.mesh_base.proofs.FaceLaws.{face_count-append, face_count-push}
 use Rattle.corner_ranges.specs.Ranges.{corners_of_cell, all_corners, range_of, corners_before}
 use Rattle.face_table.specs.Tally.{Counts, tally_in}
 use Rattle.face_table.specs.Corner.{least_share, corner_share}
-use Rattle.face_table.proofs.Sums.{face_same, set-insert}
+use Rattle.face_table.proofs.Sums.{face_same}
 
 -- three different numbers have one least
 swapped : (a b c : ℕ) → face_of b a c ≡ face_of a b c
@@ -116,13 +113,6 @@ pub before_le : (f : Face) (r : ℕ) (cells : List (Option Corners)) → AreAllD
 before_le f r cells d =
     let p = λ (k : Corners). ltb (range_of k.0) r in
     omega (arith, sum_by-filter_both p (λ k. not (p k)) (λ k. refl) (corner_share f) (all_corners cells), faces_are f cells d)
-
--- an insert and then a write of another number
-pub rewritten_by : (es new : Counts) (k : Face) (i n m : ℕ) → new ≡ insert_entry face_eq es k n → i ≡ position_or_len (face_eq k) (keys_of es) → lookup (face_eq k) es ≡ Some m
-    → set_value_at new i (m + n) ≡ insert_entry face_eq es k (tally_in es k + n)
-rewritten_by es new k i n m e p s =
-    ap (λ l. set_value_at l i (m + n)) e ∙ ap (λ q. set_value_at (insert_entry face_eq es k n) q (m + n)) p
-    ∙ set-insert es k n (m + n) ∙ ap (λ o. insert_entry face_eq es k (unwrap_or o 0 + n)) (sym s)
 
 -- the new count of every face, where one face is counted n times more
 pub tally_more_by : (es : Counts) (k f : Face) (n : ℕ) → cond (face_eq k f) (tally_in es k + n) (tally_in es f) ≡ tally_in es f + cond (face_eq k f) n 0

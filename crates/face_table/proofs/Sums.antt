@@ -124,7 +124,7 @@ pub share_more : (es : Counts) (i v : ℕ) (r : Option (Face × ℕ)) (p : Face 
 share_more es i v r p lt h e = sum_by_more (single_share v) es i p lt ∙ ap (λ q. single_count (take i es) v + single_share v q) (got es i p (sym e ∙ h))
 
 -- a write at the place of a face is an insert
-face_eq-sym : (a b : Face) → face_eq a b ≡ face_eq b a
+pub face_eq-sym : (a b : Face) → face_eq a b ≡ face_eq b a
 face_eq-sym a b = grind (arith, nat_tests)
 
 pub set-insert : (es : Counts) (k : Face) (w x : ℕ) → set_value_at (insert_entry face_eq es k w) (position_or_len (face_eq k) (keys_of es)) x ≡ insert_entry face_eq es k x
@@ -236,3 +236,6 @@ off_faces fs c v e h k d lt = subst (λ l. is_on (get_or l k d) v ≡ false) (sy
     at (suc (suc zero)) lt = off_face c.0 c.1 c.3 v (no_corner c v h).0 (no_corner c v h).1 (no_corner c v h).3
     at (suc (suc (suc zero))) lt = off_face c.0 c.1 c.2 v (no_corner c v h).0 (no_corner c v h).1 (no_corner c v h).2
     at (suc (suc (suc (suc k)))) lt = absurd (omega arith)
+
+pub insert-others : (es new : Counts) (k f : Face) (x : ℕ) → new ≡ insert_entry face_eq es k x → face_eq k f ≡ false → lookup (face_eq f) es ≡ None → lookup (face_eq f) new ≡ None
+insert-others es new k f x e h n = ap (λ l. lookup (face_eq f) l) e ∙ lookup-insert_entry es k f x ∙ ap (λ b. cond b (Some x) (lookup (face_eq f) es)) h ∙ n

@@ -1,5 +1,5 @@
 -- the faces of cells, each counted at the corner that is its least number
-use Rattle.std.specs.Prelude.{ℕ, ◌+◌, ◌&&◌, List, sum_by, if◌then◌else◌, nat_lt}
+use Rattle.std.specs.Prelude.{ℕ, ◌+◌, ◌&&◌, List, count_by, if◌then◌else◌, nat_lt}
 use Rattle.mesh_base.specs.Mesh.{Face, Corners, face_of, face_eq}
 
 -- 1 where f is the face of the three, and v is the least of them
@@ -15,5 +15,5 @@ abbrev pub corner_share : Face → Corners → ℕ
 corner_share f k = share_at k.0 k.1 k.2 k.3 f
 
 -- how often it was seen
-abbrev pub seen_of : List (Face × ℕ) → Face → ℕ
-seen_of seen f = sum_by (λ e. if face_eq e.0 f then e.1 else 0) seen
+abbrev pub seen_of : List Face → Face → ℕ
+seen_of seen f = count_by (λ g. face_eq g f) seen

@@ -1,4 +1,3 @@
 pub mod Tally
-pub mod FaceHash
-pub mod FaceHasher
 pub mod Corner
+pub mod Known

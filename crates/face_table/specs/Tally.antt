@@ -3,13 +3,17 @@ use Rattle.std.specs.Prelude.{◌≡◌, ℕ, ◌-◌, ◌<◌, ◌==◌, Bool, 
 use Rattle.std.specs.List.Sorted.{IsStrictlyIncreasing}
 use Rattle.std.specs.Map.{lookup}
 use Rattle.std.specs.declared.alloc.Global.{Global}
-use Rattle.indexmap.specs.IndexMap.{IndexMap, spare}
 use Rattle.mesh_base.specs.Mesh.{Face, Corners, is_on, is_vertex, face_eq, face_count}
 use Rattle.mesh_base.specs.Edit.{cell_at}
 
 -- faces with their counts, each face once
 abbrev pub Counts : Type 0
 Counts = List (Face × ℕ)
+
+-- what counts show: the counted faces with their counts, and for how many faces more there is room
+pub record CountsView : Type 0 where
+  pub entries : Counts
+  pub spare : ℕ
 
 -- the count of a face, or 0
 abbrev pub tally_in : Counts → Face → ℕ
@@ -62,8 +66,8 @@ pub record IsFaceTable (counts : Counts) (singles : List ℕ) (surface : Vec ℕ
   pub all : (w : ℕ) → Matches singles surface.items w
 
 -- room for a point and six faces more
-pub record HasSplitRoom {S : Type 0} (counts : IndexMap Face ℕ S) (singles : Vec ℕ Global) (surface : Vec ℕ Global) : Type 0 where
-  pub faces : 6 ≤ spare counts
+pub record HasSplitRoom (counts : CountsView) (singles : Vec ℕ Global) (surface : Vec ℕ Global) : Type 0 where
+  pub faces : 6 ≤ counts.spare
   pub numbers : length singles.items < vec_capacity singles
   pub listed : length singles.items < vec_capacity surface
 

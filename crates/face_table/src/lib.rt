@@ -5,8 +5,9 @@
 #![tactic(auto)]
 
 mod counts;
+mod face_counts;
 mod groups;
-mod hasher;
+mod known;
 mod singles;
 mod surface;
 mod table;

@@ -6,7 +6,7 @@ ghost use Rattle.mesh_base.specs.Mesh.{Face as PlainFace, Corners, IsWithin, Are
 ghost use Rattle.mesh_base.specs.Numbers.{IsListOf};
 ghost use Rattle.face_table.specs.Tally.{tally_of, IsOnSurface, IsTallyOf, HasCell, HasFreePoint, HasRoom};
 
-use crate::counts::{Counts, count_of, count_split};
+use crate::face_counts::{FaceCounts, count_split};
 use crate::groups::count_cells;
 use crate::singles::{list_singles, put_faces, take_faces};
 use crate::surface::{list_surface, reserve_point, settle_corners};
@@ -17,10 +17,11 @@ use std::marker::Model;
 /// How many live cells have each face, and the surface: the vertices on faces that a single live cell has.
 ///
 /// It keeps no cells. Contracts speak of each list of cells of which this is the table, that is, whose faces it counts.
-/// It takes some 31 to 62 bytes for each face that is counted, and 12 to 24 for each point.
+/// It takes 16 bytes for each face of the cells that it is built from, 31 to 62 for each other face that is counted, and
+/// 16 to 28 for each point.
 #[derive(Drop)]
 pub struct FaceTable {
-    counts: Counts,
+    counts: FaceCounts,
     singles: Vec<usize>,
     surface: Vec<u32>,
     // Whether `reserve_split` made room and nothing came since.
@@ -43,8 +44,7 @@ impl FaceTable {
     /// The table of these cells over points numbered from 0. An absent cell, None, counts for nothing.
     ///
     /// It passes three times over the cells, and looks at each again for each range of points that it has corners in. It
-    /// gathers the faces point by point, looks up each face once, and then passes once over the faces and once over the
-    /// points.
+    /// gathers and sorts the faces point by point, and then passes twice over the faces and twice over the points.
     pub fn build(alloc: Global, points: u32, cells: &[Option<Cell>]) -> Result<FaceTable, NoMemory>
         requires few_points { points ≤ 1000000 }
         requires few_cells { length cells.now ≤ 4000000 }
@@ -64,13 +64,14 @@ impl FaceTable {
         })
     }
 
-    /// How many live cells have the face. It looks the face up once and takes no memory.
+    /// How many live cells have the face. It looks the face up once, among the faces with the same least number and in a
+    /// map of faces that came later, and takes no memory.
     pub fn tally(&self, face: Face) -> u32
         ensures tally { result ≡ tally_of self.now face }
         ensures cells { (cells : List (Option Corners)) → AreAllDifferent cells → IsTallyOf cells self.now → result ≡ count cells face }
     {
         let _numbers = face.numbers();
-        count_of(&self.counts, &face)
+        self.counts.count_of(&face)
     }
 
     /// Counts the faces of a cell that comes. After `NoMemory` the table is as it was.

@@ -117,13 +117,24 @@ fn split(
 
 // A mesh with these cells, whose points lie all in one place.
 fn mesh_of(alloc: Global, points: u32, cells: &[Option<Cell>]) -> Result<Mesh, Fail>
-    ensures { IfOk result (λ mesh. length mesh.points ≡ points) }
+    ensures points { IfOk result (λ mesh. length mesh.points ≡ points) }
+    ensures cells { IfOk result (λ mesh. mesh.cells ≡ cells.now) }
 {
     let place = Point::new(0, 0, 0).ok_or("place")?;
     let places = PointList::of(vec![in alloc; place; points as usize]?);
     let cells = CellList::of(cells.to_vec(alloc)?);
     let mesh = Mesh::new(places, cells).ok_or("limits")?;
     Ok(mesh)
+}
+
+// The table that is built from these cells.
+fn built(alloc: Global, points: u32, cells: &[Option<Cell>]) -> Result<FaceTable, Fail>
+    ensures points { IfOk result (λ table. table.points ≡ points) }
+    ensures cells { IfOk result (IsTallyOf cells.now) }
+{
+    let mesh = mesh_of(alloc, points, cells)?;
+    let table = FaceTable::build(alloc, points, mesh.cells())?;
+    Ok(table)
 }
 
 // How many vertices the surface has, where the table is that which is built anew from the cells.
@@ -133,8 +144,7 @@ fn compared(
     points: u32,
     cells: &[Option<Cell>],
 ) -> Result<usize, Fail> {
-    let mesh = mesh_of(alloc, points, cells)?;
-    let built = FaceTable::build(alloc, points, mesh.cells())?;
+    let built = built(alloc, points, cells)?;
     for cell in cells.iter().flatten() {
         for face in cell.faces() {
             if table.tally(face) != built.tally(face) {
@@ -256,6 +266,9 @@ const TWO_SPLITS: &[[u32; 4]] = &[
     [0, 4, 2, 5],
 ];
 
+// Two cells beside a block with the points 0 to 63, with one face of later points between them.
+const TWO_LATER: &[[u32; 4]] = &[[0, 64, 65, 66], [1, 64, 65, 66]];
+
 // Five cells over five points, each face on two of them.
 const CLOSED: &[[u32; 4]] = &[
     [0, 1, 2, 3],
@@ -364,5 +377,44 @@ fn ten_thousand_splits_are_as_built_anew(rt: HostRuntime) -> Result<(), Fail> {
         (88_000, 78_000)
     );
     assert_eq!(rt; compared(alloc, &table, 19_261, cells.as_slice())?, 2_402);
+    Ok(())
+}
+
+// The counts of all faces of these cells together.
+fn sum_of_tallies(table: &FaceTable, cells: &[[u32; 4]]) -> u32 {
+    let mut sum = 0u32;
+    for [a, b, c, d] in cells {
+        for face in [[*b, *c, *d], [*a, *c, *d], [*a, *b, *d], [*a, *b, *c]] {
+            sum = sum.wrapping_add(tally(table, face));
+        }
+    }
+    sum
+}
+
+// A block of 3 cubes a side has 108 faces on its sides, which count 1 each, and 270 within, each of which two cells have.
+#[test]
+fn first_faces_go_and_come_beside_later_ones(rt: HostRuntime) -> Result<(), Fail> {
+    let alloc = rt.alloc();
+    let corners = block(alloc, 3)?;
+    let mut cells = Vec::new(alloc);
+    for four in &corners {
+        list(&mut cells, *four)?;
+    }
+    let mut table = built(alloc, 64, cells.as_slice())?;
+    assert_eq!(rt; sum_of_tallies(&table, &corners), 108 + 4 * 270);
+    split_first(alloc, &mut table, 64, &mut cells, 50)?;
+    assert_eq!(rt; compared(alloc, &table, 114, cells.as_slice())?, 56);
+    let mut live = Vec::new(alloc);
+    for i in 50..cells.len() {
+        live.push(i)?;
+    }
+    clear(&mut table, &mut cells, &live)?;
+    assert_eq!(rt; sum_of_tallies(&table, &corners), 0);
+    assert_eq!(rt; compared(alloc, &table, 114, cells.as_slice())?, 0);
+    fill(alloc, &mut table, 114, &mut cells, &corners)?;
+    fill(alloc, &mut table, 114, &mut cells, TWO_LATER)?;
+    assert_eq!(rt; sum_of_tallies(&table, &corners), 108 + 4 * 270);
+    assert_eq!(rt; tally(&table, [66, 64, 65]), 2);
+    assert_eq!(rt; compared(alloc, &table, 114, cells.as_slice())?, 56 + 3);
     Ok(())
 }

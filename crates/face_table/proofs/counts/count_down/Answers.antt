@@ -1,14 +1,8 @@
 use Rattle.std.proofs.Common.{◌≡◌, ◌+◌, ◌-◌, cond, ap, sym, ◌∙◌, arith}
 use Rattle.mesh_base.specs.Mesh.{face_eq}
 use Rattle.face_table.specs.Tally.{tally_in, single_share}
-use Rattle.face_table.proofs.Sums.{removed-share, removed-tally, counted_at, place_within, written, insert-tally, insert-share, tally_less, single_count-le}
+use Rattle.face_table.proofs.Sums.{removed-share, removed-tally, counted_at, place_within, written, insert-tally, insert-share, insert-others, tally_less}
 use Rattle.face_table.proofs.counts.count_down.Goals as goal
-
-pub returns-then-before-eq1-clause-few : goal.returns-then-before-eq1-clause-few
-returns-then-before-eq1-clause-few c v = omega (arith, single_count-le c.args.counts.now.entries v)
-
-pub returns-else-before-eq1-clause-few : goal.returns-else-before-eq1-clause-few
-returns-else-before-eq1-clause-few c v = omega (arith, single_count-le c.args.counts.now.entries v)
 
 pub returns-then-before-eq1-clause-tally : goal.returns-then-before-eq1-clause-tally
 returns-then-before-eq1-clause-tally c f =
@@ -50,3 +44,10 @@ returns-else-before-eq1-clause-singles c v =
     let s = insert-share es _ k (n - 1) v (written es k c.unwrap-place.result (n - 1) at) in
     let e : single_share v (k, tally_in es k) ≡ single_share v (k, n) = ap (λ m. single_share v (k, m)) t in
     omega (arith, s, e)
+
+pub returns-else-before-eq1-clause-others : goal.returns-else-before-eq1-clause-others
+returns-else-before-eq1-clause-others c f h n =
+    let es = c.args.counts.now.entries in
+    let k = c.args.face.now in
+    let at = sym c.get_index_of.ensures.index ∙ c.unwrap-place.ensures in
+    insert-others es _ k f (c.index-before.result.now - 1) (written es k c.unwrap-place.result (c.index-before.result.now - 1) at) h n

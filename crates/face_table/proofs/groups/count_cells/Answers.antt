@@ -1,6 +1,7 @@
 use Rattle.std.proofs.Common.{◌+◌, ◌∙◌, sym, ap, arith, sum_by}
 use Rattle.corner_ranges.specs.Ranges.{corners_in, slot_share}
 use Rattle.corner_ranges.proofs.RangeLemmas.{corners_before-0, corners_before-next, corners_before-all}
+use Rattle.face_table.specs.Tally.{tally_in}
 use Rattle.face_table.specs.Corner.{corner_share}
 use Rattle.face_table.proofs.BuildLemmas.{face_count-le}
 use Rattle.face_table.proofs.CornerLemmas.{faces_are, before_le}
@@ -50,5 +51,5 @@ pub returns : goal.returns
 returns c = record {
   tally = λ f.
       let a = corners_before-all c.args.points c.loop-range.range c.args.cells.now c.requires.within (omega (arith, c.in_ok-ranges.ensures.covers, c.count-count.ensures)) in
-      c.loop-range.invariant.tally f ∙ ap (sum_by (corner_share f)) a ∙ faces_are f c.args.cells.now c.are_different.ensures;
+      ap (λ l. tally_in l f) c.note_starts.ensures ∙ c.loop-range.invariant.tally f ∙ ap (sum_by (corner_share f)) a ∙ faces_are f c.args.cells.now c.are_different.ensures;
 }

@@ -9,7 +9,7 @@ invariant_of-self-in_err-reserve_point c =
       subst (λ l. IsFaceTable l p.new.singles.items p.new.surface) (sym c.reserve.ensures.entries)
           (roomier c.self.inside.counts.entries c.self.inside.singles.items p.new.singles.items c.self.inside.surface p.new.surface p.ensures.singles p.ensures.surface p.ensures.surface_capacity c.self.invariant.0),
       λ e. keeps_room c.self.inside.counts c.reserve.new.self c.self.inside.singles p.new.singles c.self.inside.surface p.new.surface
-          c.reserve.ensures.room.0 p.ensures.singles p.ensures.single_capacity p.ensures.surface_capacity (c.self.invariant.1 e),
+          c.reserve.ensures.room p.ensures.singles p.ensures.single_capacity p.ensures.surface_capacity (c.self.invariant.1 e),
     )
 
 pub invariant_of-self-2 : goal.invariant_of-self-2

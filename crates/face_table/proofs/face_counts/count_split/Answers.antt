@@ -3,7 +3,7 @@ use Rattle.mesh_base.specs.Mesh.{is_on, face_eq}
 use Rattle.mesh_base.proofs.Corners.{array-apart}
 use Rattle.face_table.proofs.Splits.{two, unlike_first, unlike_second, array-beside, array-faces}
 use Rattle.face_table.proofs.Within.{third_on}
-use Rattle.face_table.proofs.counts.count_split.Goals as goal
+use Rattle.face_table.proofs.face_counts.count_split.Goals as goal
 
 pub new-requires : goal.new-requires
 new-requires c =
