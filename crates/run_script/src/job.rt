@@ -1,5 +1,6 @@
 //! Jobs: a mesh with a script that fits it.
-ghost use Rattle.std.specs.Prelude.{◌≡◌, ◌<◌, ◌≤◌, length, All};
+ghost use Rattle.std.specs.Prelude.{◌≡◌, ◌<◌, ◌≤◌, length, All, IfOk};
+ghost use Rattle.std.specs.Arc.{arc_value};
 ghost use Rattle.std.specs.List.{sum_by};
 
 use crate::check::check_script;
@@ -8,8 +9,9 @@ use crate::lists::PlanList;
 use crate::script::{Plan, Script};
 use crate::turns::all_turns;
 use mesh_base::{BoxQ, Mesh};
-use std::alloc::Global;
+use std::alloc::{AllocError, Global};
 use std::marker::Model;
+use std::sync::Arc;
 
 /// A list of boxes.
 #[derive(Drop)]
@@ -83,23 +85,25 @@ impl TurnList {
 /// A mesh, and a script that fits it: each edit fits the mesh that it comes to, and no wait is for a step that never comes.
 #[derive(Drop)]
 pub struct Job {
-    mesh: Mesh,
+    mesh: Arc<Mesh>,
     plans: PlanList,
     sessions: Vec<TurnList>,
 }
 
 impl Model for Job {
+    ghost use Rattle.std.specs.Arc.{arc_value};
     ghost use Rattle.run_script.specs.Jobs.{JobView, IsJob};
 
     ghost Value = { JobView };
 
-    ghost view = { λ j. record { mesh = j.mesh; plans = j.plans; sessions = j.sessions.items } };
+    ghost view = { λ j. record { mesh = arc_value j.mesh; plans = j.plans; sessions = j.sessions.items } };
 
-    ghost invariant = { λ j. IsJob (record { mesh = j.mesh; plans = j.plans; sessions = j.sessions.items }) };
+    ghost invariant = { λ j. IsJob (record { mesh = arc_value j.mesh; plans = j.plans; sessions = j.sessions.items }) };
 }
 
 impl Job {
-    ghost use Rattle.std.specs.Prelude.{◌≡◌, ◌<◌, ◌≤◌, [], length, All};
+    ghost use Rattle.std.specs.Prelude.{◌≡◌, ◌<◌, ◌≤◌, [], length, All, IfOk};
+    ghost use Rattle.std.specs.Arc.{arc_value};
     ghost use Rattle.run_script.specs.Outcome.{Agrees};
     ghost use Rattle.run_script.specs.Scripts.{IsPlan};
     ghost use Rattle.run_script.specs.Jobs.{IsJob, IsTurn, EditsFit, checked, step_at, plan_at, turns_of, box_count, turn_count, all_boxes};
@@ -118,28 +122,37 @@ impl Job {
         let sessions = all_turns(alloc, script.sessions())?;
         let plans = script.into_plans();
         Ok(Job {
-            mesh,
+            mesh: Arc::new(alloc, mesh)?,
             plans,
             sessions,
         })
     }
 
-    /// The job of a mesh alone, without plans and sessions. Nothing is checked or copied, and no memory is taken.
-    pub fn still(alloc: Global, mesh: Mesh) -> Job
-        ensures mesh { result.mesh ≡ mesh }
-        ensures plans { result.plans ≡ [] }
-        ensures sessions { result.sessions ≡ [] }
+    /// The job of a mesh alone, without plans and sessions. Nothing is checked, and no list is copied: it takes memory for the
+    /// count of those that share the mesh. After AllocError the mesh is gone.
+    pub fn still(alloc: Global, mesh: Mesh) -> Result<Job, AllocError>
+        ensures mesh { IfOk result (λ job. job.mesh ≡ mesh) }
+        ensures plans { IfOk result (λ job. job.plans ≡ []) }
+        ensures sessions { IfOk result (λ job. job.sessions ≡ []) }
     {
-        Job {
-            mesh,
+        Ok(Job {
+            mesh: Arc::new(alloc, mesh)?,
             plans: PlanList::of(Vec::new(alloc)),
             sessions: Vec::new(alloc),
-        }
+        })
     }
 
     /// The mesh that the run begins with.
     pub fn mesh(&self) -> &Mesh
         ensures mesh { result.now ≡ self.now.mesh }
+        ensures valid { IsJob self.now }
+    {
+        &self.mesh
+    }
+
+    /// The same mesh, for those that share it: a clone costs one count, and the mesh never changes.
+    pub fn shared_mesh(&self) -> &Arc<Mesh>
+        ensures mesh { arc_value result.now ≡ self.now.mesh }
         ensures valid { IsJob self.now }
     {
         &self.mesh

@@ -61,7 +61,7 @@ fn a_fault_is_told_in_words(rt: HostRuntime) -> Result<(), Fail> {
 #[test]
 fn a_job_of_a_mesh_alone_has_no_step_and_no_session(rt: HostRuntime) -> Result<(), Fail> {
     let alloc = rt.alloc();
-    let job = Job::still(alloc, sample(&rt, alloc)?);
+    let job = Job::still(alloc, sample(&rt, alloc)?)?;
     assert_eq!(rt; job.steps(), 0);
     assert_eq!(rt; job.sessions(), 0);
     assert_eq!(rt; job.mesh().cells().len(), 1);

@@ -3,3 +3,4 @@ pub mod Tables
 pub mod Chunks
 pub mod RowChunks
 pub mod Shapes
+pub mod Cells

@@ -5,11 +5,12 @@ ghost use Rattle.mesh_base.specs.Mesh.{MeshView, AreWithin};
 ghost use Rattle.mesh_base.specs.Edit.{edited, EditFits};
 ghost use Rattle.topo.specs.Shapes.{AreKeptCells, AreKeptRows, topology_of, touched_by, left_rows, left_corners};
 
-use crate::cells::CellChunk;
+use crate::cells::{CellChunk, cell_chunks};
 use crate::chunks::CHUNK;
 use crate::rows::RowChunk;
 use crate::surface::SurfaceList;
-use mesh_base::{Cell, Edit};
+use crate::tables::Tables;
+use mesh_base::{Cell, Edit, NoMemory};
 use std::alloc::Global;
 use std::sync::Arc;
 
@@ -32,6 +33,17 @@ impl KeptChunks {
             rows: Vec::new(alloc),
             surface: None,
         }
+    }
+
+    /// Keeps the chunks of these cells, before any shape has them.
+    pub fn keep_cells(&mut self, alloc: Global, tables: &Tables) -> Result<(), NoMemory>
+        requires { AreKeptCells arc_value tables.now.cells self.old.cells.items }
+        ensures cells { AreKeptCells arc_value tables.now.cells self.new.cells.items }
+        ensures rows { self.new.rows ≡ self.old.rows }
+    {
+        let _few = tables.cells();
+        let _chunks = cell_chunks(alloc, &mut self.cells, tables.store())?;
+        Ok(())
     }
 }
 

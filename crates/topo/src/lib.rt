@@ -11,6 +11,7 @@
 mod cells;
 mod chunks;
 mod kept;
+mod list;
 mod positions;
 mod rows;
 mod shape;

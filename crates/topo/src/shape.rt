@@ -59,12 +59,13 @@ impl Shape {
         ensures cells { AreKeptCells arc_value tables.now.cells kept.new.cells.items }
         ensures rows { AreKeptRows arc_value tables.now kept.new.rows.items }
     {
-        let cells = cell_chunks(alloc, &mut kept.cells, tables.cells())?;
+        let count = tables.cells().len() as u32;
+        let cells = cell_chunks(alloc, &mut kept.cells, tables.store())?;
         let rows = row_chunks(alloc, &mut kept.rows, tables)?;
         let surface = surface_list(alloc, &mut kept.surface, tables.surface())?;
         Ok(Shape {
             points: tables.points(),
-            count: tables.cells().len() as u32,
+            count,
             cells,
             surface,
             rows,

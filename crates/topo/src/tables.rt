@@ -1,22 +1,26 @@
 //! The cells of a mesh with the two tables that follow from them, changed by edits.
-ghost use Rattle.std.specs.Prelude.{◌≡◌, ◌==◌, ◌↔◌, ℕ, not, ◌+◌, ◌<◌, ◌≤◌, List, Option, [], ◌∷◌, ◌++◌, Some, None, length, vec_len, vec_capacity, filter, map, slice_set, IfSome, IsSome, IsTrue, IfOk, OnOk, OnErr};
+ghost use Rattle.std.specs.Prelude.{◌≡◌, ◌==◌, ◌↔◌, ℕ, not, ◌+◌, ◌<◌, ◌≤◌, List, Option, [], ◌∷◌, ◌++◌, Some, None, length, filter, map, slice_set, IfSome, IsSome, IsTrue, IfOk, OnOk, OnErr};
+ghost use Rattle.std.specs.Arc.{arc_value};
 ghost use Rattle.std.specs.List.{range_with_len};
 ghost use Rattle.mesh_base.specs.Mesh.{MeshView, corners_of, AreDifferent, AreWithin, AreAllDifferent, IsWithin, IsMesh, is_vertex, is_surface, are_neighbours, surface, neighbours};
 ghost use Rattle.mesh_base.specs.Edit.{cell_at, edited, quarters, split_cells, EditFits};
 ghost use Rattle.topo.specs.Topology.{Topology, IsTopologyOf, IsTopology, Fits};
 ghost use Rattle.topo.specs.Shapes.{touched_by};
+ghost use Rattle.topo.specs.Cells.{listed};
 
+use crate::list::Cells;
 use edge_table::EdgeTable;
 use face_table::FaceTable;
-use mesh_base::{Cell, CellList, Edit, MOST_CELLS, MOST_POINTS, NoMemory};
+use mesh_base::{Cell, CellList, Edit, MOST_CELLS, MOST_POINTS, Mesh, NoMemory};
 use std::alloc::Global;
 use std::marker::Model;
+use std::sync::Arc;
 
 /// How many points a mesh has, and its cells, with the tables from which the surface and the neighbours are read.
 #[derive(Drop)]
 pub struct Tables {
     points: u32,
-    cells: Vec<Option<Cell>>,
+    cells: Cells,
     faces: FaceTable,
     edges: EdgeTable,
 }
@@ -24,12 +28,13 @@ pub struct Tables {
 impl Model for Tables {
     ghost use Rattle.topo.specs.Topology.{Topology};
     ghost use Rattle.topo.specs.Tables.{AreTables};
+    ghost use Rattle.topo.specs.Cells.{listed};
 
     ghost Value = { Topology };
 
-    ghost view = { λ t. record { points = t.points; cells = t.cells.items } };
+    ghost view = { λ t. record { points = t.points; cells = listed t.cells } };
 
-    ghost invariant = { λ t. AreTables t.points t.cells.items t.faces t.edges };
+    ghost invariant = { λ t. AreTables t.points (listed t.cells) t.faces t.edges };
 }
 
 // The corners of a live cell differ, which its type says. Nothing is computed.
@@ -72,18 +77,6 @@ fn quarters_of(point: u32, cell: &Cell) -> [Cell; 4]
     ]
 }
 
-// One entry becomes absent, and these cells come at the end, where there is room.
-fn split_list(cells: &mut Vec<Option<Cell>>, split: u32, quarters: &[Cell])
-    requires live { split < vec_len cells.old }
-    requires room { vec_len cells.old + length quarters.now ≤ vec_capacity cells.old }
-    ensures { cells.new.items ≡ slice_set cells.old.items split None ++ map Some quarters.now }
-{
-    cells[split as usize] = None;
-    for cell in quarters {
-        cells.push_reserved(Some(*cell));
-    }
-}
-
 impl Tables {
     /// The tables of these cells over points numbered from 0.
     pub fn build(alloc: Global, points: u32, cells: CellList) -> Result<Tables, NoMemory>
@@ -92,10 +85,27 @@ impl Tables {
         requires within { AreWithin points cells }
         ensures { IfOk result (λ tables. tables ≡ record { points = points; cells = cells }) }
     {
-        let cells = cells.into_items();
-        are_different(&cells);
-        let faces = FaceTable::build(alloc, points, &cells)?;
-        let edges = EdgeTable::build(alloc, points, &cells)?;
+        Tables::of(alloc, points, Cells::Own(cells.into_items()))
+    }
+
+    /// The tables of the points and the cells of this mesh, whose list of cells is shared.
+    pub fn of_mesh(alloc: Global, mesh: Arc<Mesh>) -> Result<Tables, NoMemory>
+        ensures { IfOk result (λ tables. tables ≡ record { points = length (arc_value mesh).points; cells = (arc_value mesh).cells }) }
+    {
+        let points = mesh.points().len() as u32;
+        Tables::of(alloc, points, Cells::Shared(mesh))
+    }
+
+    // The tables of these cells, wherever they stand.
+    fn of(alloc: Global, points: u32, cells: Cells) -> Result<Tables, NoMemory>
+        requires few_points { points ≤ 1000000 }
+        requires few_cells { length (listed cells) ≤ 4000000 }
+        requires within { AreWithin points (listed cells) }
+        ensures { IfOk result (λ tables. tables ≡ record { points = points; cells = listed cells }) }
+    {
+        are_different(cells.as_slice());
+        let faces = FaceTable::build(alloc, points, cells.as_slice())?;
+        let edges = EdgeTable::build(alloc, points, cells.as_slice())?;
         Ok(Tables {
             points,
             cells,
@@ -121,6 +131,13 @@ impl Tables {
         self.cells.as_slice()
     }
 
+    /// Where the cells stand.
+    pub fn store(&self) -> &Cells
+        ensures { listed result.now ≡ self.now.cells }
+    {
+        &self.cells
+    }
+
     /// The neighbours of point v, ascending.
     pub fn neighbours(&self, v: u32) -> &[u32]
         requires { v < self.now.points }
@@ -143,7 +160,7 @@ impl Tables {
     fn live_cell(&self, i: u32) -> Option<Cell>
         ensures cell { result ≡ cell_at self.now.cells i }
     {
-        match self.cells.get(i as usize) {
+        match self.cells.as_slice().get(i as usize) {
             Some(cell) => *cell,
             None => None,
         }
@@ -157,7 +174,7 @@ impl Tables {
         match *edit {
             Edit::Point { .. } => self.has_point_room(),
             Edit::Add { corners } => {
-                self.cells.len() < MOST_CELLS
+                self.cells.as_slice().len() < MOST_CELLS
                     && self.has_points(corners)
                     && Cell::new(corners).is_some()
             }
@@ -165,7 +182,7 @@ impl Tables {
             Edit::Split { cell, .. } => {
                 self.live_cell(cell).is_some()
                     && self.has_point_room()
-                    && self.cells.len() <= MOST_CELLS - 4
+                    && self.cells.as_slice().len() <= MOST_CELLS - 4
             }
         }
     }
@@ -191,10 +208,7 @@ impl Tables {
         match *edit {
             Edit::Point { .. } => self.push_point(alloc),
             Edit::Add { corners } => self.push_cell(alloc, cell_of(corners)),
-            Edit::Remove { cell } => {
-                self.remove(cell);
-                Ok(())
-            }
+            Edit::Remove { cell } => self.remove(alloc, cell),
             Edit::Split { cell, .. } => self.split(alloc, cell),
         }
     }
@@ -239,26 +253,29 @@ impl Tables {
         ensures err { OnErr result (self.new ≡ self.old) }
     {
         let _corners = cell.corners();
-        self.cells.reserve(1)?;
+        self.cells.reserve(alloc, 1)?;
         self.faces.put_cell(alloc, cell)?;
         if let Err(refused) = self.edges.put_cell(alloc, cell) {
             self.faces.take_cell(cell);
             return Err(refused);
         }
-        self.cells.push_reserved(Some(cell));
+        self.cells.push_reserved(cell);
         Ok(())
     }
 
     // Cell i, which is live, becomes absent.
-    fn remove(&mut self, i: u32)
+    fn remove(&mut self, alloc: Global, i: u32) -> Result<(), NoMemory>
         requires { IsSome (cell_at self.old.cells i) }
         ensures points { self.new.points ≡ self.old.points }
-        ensures cells { self.new.cells ≡ slice_set self.old.cells i None }
+        ensures cells { OnOk result (self.new.cells ≡ slice_set self.old.cells i None) }
+        ensures err { OnErr result (self.new ≡ self.old) }
     {
         let removed = self.live_cell(i).unwrap();
+        self.cells.reserve(alloc, 0)?;
         self.faces.take_cell(removed);
         self.edges.take_cell(removed);
-        self.cells[i as usize] = None;
+        self.cells.remove(i);
+        Ok(())
     }
 
     // Cell i, which is live, becomes absent, and four cells come that have a new point in place of one of its corners.
@@ -271,11 +288,11 @@ impl Tables {
         ensures err { OnErr result (self.new ≡ self.old) }
     {
         let cell = self.live_cell(i).unwrap();
-        self.cells.reserve(4)?;
+        self.cells.reserve(alloc, 4)?;
         self.faces.reserve_split(alloc)?;
         self.edges.split_cell(alloc, self.points, cell)?;
         self.faces.split_cell(self.points, cell);
-        split_list(&mut self.cells, i, &quarters_of(self.points, &cell));
+        self.cells.split(i, &quarters_of(self.points, &cell));
         self.points += 1;
         Ok(())
     }

@@ -33,11 +33,16 @@ fn make(alloc: Global, topo: &mut Topo, change: Change) -> Result<(), Fail> {
     Ok(topo.edit(alloc, &edit)?)
 }
 
-// The topology of these cells, built at once.
-fn built(alloc: Global, points: u32, cells: Vec<Option<Cell>>) -> Result<Topo, Fail> {
+// The mesh of these cells, whose points lie somewhere.
+fn mesh_of(alloc: Global, points: u32, cells: Vec<Option<Cell>>) -> Result<Mesh, Fail> {
     let at = Point::new(4, 4, 4).ok_or("place")?;
     let places = PointList::of(vec![in alloc; at; points as usize]?);
-    let mesh = Mesh::new(places, CellList::of(cells)).ok_or("limits")?;
+    Ok(Mesh::new(places, CellList::of(cells)).ok_or("limits")?)
+}
+
+// The topology of these cells, built at once.
+fn built(alloc: Global, points: u32, cells: Vec<Option<Cell>>) -> Result<Topo, Fail> {
+    let mesh = mesh_of(alloc, points, cells)?;
     let count = mesh.points().len() as u32;
     let cells = CellList::of(mesh.cells().to_vec(alloc)?);
     Ok(Topo::build(alloc, count, cells)?)
@@ -487,5 +492,18 @@ fn shapes_after_edits_are_as_built_anew(rt: HostRuntime) -> Result<(), Fail> {
     let alloc = rt.alloc();
     let mut topo = built(alloc, 9_261, block(alloc, 6_000)?)?;
     assert!(rt; shapes_stay(alloc, &mut topo)?);
+    Ok(())
+}
+
+// So are those of a topology that shares the cells of a mesh, which stays as it is. The topology and the first shape let go
+// of it once an edit has changed each of the shape's two chunks.
+#[test]
+fn shapes_of_a_shared_mesh_are_as_built_anew(rt: HostRuntime) -> Result<(), Fail> {
+    let alloc = rt.alloc();
+    let mesh = Arc::new(alloc, mesh_of(alloc, 9_261, block(alloc, 6_000)?)?)?;
+    let mut topo = Topo::of_mesh(alloc, mesh.clone()?)?;
+    assert!(rt; shapes_stay(alloc, &mut topo)?);
+    assert_eq!(rt; Arc::strong_count(&mesh), 1);
+    assert!(rt; mesh.cells() == block(alloc, 6_000)?.as_slice());
     Ok(())
 }

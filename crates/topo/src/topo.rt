@@ -9,7 +9,7 @@ ghost use Rattle.topo.specs.Topology.{IsTopologyOf, IsTopology, Fits};
 use crate::kept::{KeptChunks, forget_cells, forget_rows};
 use crate::shape::Shape;
 use crate::tables::Tables;
-use mesh_base::{Cell, CellList, Edit, NoMemory};
+use mesh_base::{Cell, CellList, Edit, Mesh, NoMemory};
 use std::alloc::Global;
 use std::marker::Model;
 use std::sync::Arc;
@@ -59,6 +59,23 @@ impl Topo {
         })
     }
 
+    /// The topology of this mesh, which stays as it is. After NoMemory the topology's share of it is gone.
+    ///
+    /// It costs what `build` costs, and copies no cell: the cells are shared with the mesh until an edit changes one. The chunks
+    /// of its shapes that no edit changes stay parts of the mesh.
+    pub fn of_mesh(alloc: Global, mesh: Arc<Mesh>) -> Result<Topo, NoMemory>
+        ensures { IfOk result (λ topo. topo ≡ record { points = length (arc_value mesh).points; cells = (arc_value mesh).cells }) }
+    {
+        let tables = Tables::of_mesh(alloc, mesh)?;
+        let mut kept = KeptChunks::new(alloc);
+        kept.keep_cells(alloc, &tables)?;
+        Ok(Topo {
+            tables,
+            last: None,
+            kept,
+        })
+    }
+
     /// How many points there are.
     pub fn points(&self) -> u32
         ensures points { result ≡ self.now.points }
@@ -98,7 +115,8 @@ impl Topo {
 
     /// A shape that is what the topology is now, and stays so whatever is edited later. After NoMemory nothing has changed.
     ///
-    /// It copies the cells, the neighbours and the surface, whether or not an edit came since the last one.
+    /// It copies the neighbours, the surface and the cells, whether or not an edit came since the last one. Cells that are still
+    /// those of a mesh aren't copied.
     pub fn freeze(&self, alloc: Global) -> Result<Arc<Shape>, NoMemory>
         ensures { IfOk result (λ shape. arc_value shape ≡ self.now) }
     {
@@ -137,7 +155,7 @@ impl Topo {
     /// A cell that comes or goes costs its put or its take in the tables of faces and of neighbours, and a vertex that so comes
     /// to the surface or leaves it moves what stands behind it in the list of the surface. A split costs six look-ups of faces
     /// and twelve searches in lists of neighbours, and leaves the surface as it is. An edit takes memory only where a list or
-    /// a table has to grow.
+    /// a table has to grow, but for the first edit of a cell: it copies the cells of a topology that shares its mesh's.
     pub fn edit(&mut self, alloc: Global, edit: &Edit) -> Result<(), NoMemory>
         requires fits { Fits self.old edit.now }
         ensures edited { OnOk result ((mesh : MeshView) → IsTopologyOf mesh self.old → IsTopologyOf (edited mesh edit.now) self.new) }
