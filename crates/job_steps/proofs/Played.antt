@@ -1,15 +1,16 @@
 -- the next step of a job, from the one before it
-use Rattle.std.proofs.Common.{◌≡◌, ℕ, ◌+◌, ◌<◌, List, ◌++◌, length, length-append, refl, sym, ap, ◌∙◌, subst, arith, add-one}
-use Rattle.mesh_base.specs.Place.{Place}
+use Rattle.std.proofs.Common.{◌≡◌, ℕ, ◌+◌, ◌<◌, List, ◌++◌, length, length-append, All, refl, sym, ap, ◌∙◌, subst, arith, add-one}
+use Rattle.mesh_base.specs.Place.{Place, IsPlace}
 use Rattle.mesh_base.specs.Mesh.{MeshView}
 use Rattle.mesh_base.specs.Kernel.{moved}
 use Rattle.mesh_base.specs.declared.edit.Kernel.{Kernel}
+use Rattle.mesh_base.specs.declared.edit.Kernel.TheVariants as kernel
 use Rattle.topo.specs.Topology.{Topology, IsTopologyOf, mesh_at}
 use Rattle.run_script.specs.Jobs.{JobView, all_edited, planned, plan_at, step_at, steps}
 use Rattle.run_script.specs.declared.script.LinedEdit.{LinedEdit}
 use Rattle.step_view.specs.StepView.{IsStepOf}
 use Rattle.job_steps.specs.Added.{new_points}
-use Rattle.job_steps.proofs.PlanLaws.{all_edited-points, moved-len}
+use Rattle.job_steps.proofs.PlanLaws.{all_edited-points, moved-len, moved-stay}
 
 -- meshes with the same places and the same cells
 same_mesh : (m n : MeshView) → m.points ≡ n.points → m.cells ≡ n.cells → m ≡ n
@@ -75,3 +76,9 @@ pub next_made : (job : JobView) (k step : ℕ) (u shape : Topology) (kernel : Ke
 next_made job k step u shape kernel before moved_to lt mesh by number same len m =
     let motion = m ∙ ap (λ s. moved (mesh_at before s) kernel step) same ∙ ap (λ x. moved (mesh_at before u) x step) by ∙ ap (moved (mesh_at before u) (plan_at job k).kernel) number in
     subst (λ n. IsStepOf job n u moved_to) (sym number) (next_is job k u before moved_to lt mesh (len ∙ ap (λ s. s.points) same) motion)
+
+-- a plan that stays has no motion
+pub next_stays : (job : JobView) (k : ℕ) (u : Topology) (before : List Place) → k < steps job → mesh_at before u ≡ all_edited (step_at job k) (plan_at job k).edits → (plan_at job k).kernel ≡ kernel.Stay → length before ≡ u.points → All IsPlace before → IsStepOf job (k + 1) u before
+next_stays job k u before lt e stay len all =
+    let m = mesh_at before u in
+    next_is job k u before before lt e len (moved-stay m (k + 1) all ∙ ap (λ x. moved m x (k + 1)) (sym stay))

@@ -10,7 +10,7 @@ use mesh_base::{Edit, NoMemory, Point, PointList};
 use run_script::LinedEdit;
 use std::alloc::Global;
 use std::sync::Arc;
-use topo::{Positions, Shape, Topo};
+use topo::{Positions, Topo};
 
 // The place of the point that the edit adds, if it adds one.
 fn new_point(edit: &Edit) -> Option<Point>
@@ -63,20 +63,21 @@ fn joined(
     Positions::after(alloc, old, PointList::of(points))
 }
 
-/// The places of the points of the shape: those of before, and behind them those of new points. Without new points they are
-/// shared, and nothing is copied.
+/// The places of so many points: those of before, and behind them those of new points. Without new points they are shared, and
+/// nothing is copied.
 pub fn with_added(
     alloc: Global,
     old: &Arc<Positions>,
     added: &[Point],
-    shape: &Shape,
+    count: u32,
 ) -> Result<Arc<Positions>, NoMemory>
-    requires { length (arc_value old.now) + length added.now ≡ shape.now.points }
+    requires count { length (arc_value old.now) + length added.now ≡ count }
+    requires few { count ≤ 1000000 }
     ensures { IfOk result (λ places. arc_value places ≡ arc_value old.now ++ added.now) }
 {
     if added.is_empty() {
         Ok(old.clone()?)
     } else {
-        joined(alloc, shape.points(), old, added)
+        joined(alloc, count, old, added)
     }
 }

@@ -29,6 +29,28 @@ pub struct Ground {
     ghost in_range: { All IsPlace (arc_value places) },
 }
 
+// Makes the edits of plan k, and gives the places after them.
+fn edited_places(
+    alloc: Global,
+    job: &Job,
+    k: u32,
+    topo: &mut Topo,
+    places: &Arc<Positions>,
+) -> Result<Arc<Positions>, NoMemory>
+    requires job { IsJob job.now }
+    requires more { k < steps job.now }
+    requires now { IsStepOf job.now k topo.old (arc_value places.now) }
+    requires in_range { All IsPlace (arc_value places.now) }
+    ensures mesh { IfOk result (λ before. mesh_at (arc_value before) topo.new ≡ all_edited (step_at job.now k) (plan_at job.now k).edits) }
+    ensures points { IfOk result (λ before. length (arc_value before) ≡ topo.new.points) }
+    ensures in_range { IfOk result (λ before. All IsPlace (arc_value before)) }
+{
+    let edits = &job.plan(k).edits;
+    let added = make_edits(alloc, topo, edits.items())?;
+    let after = with_added(alloc, places, &added, topo.points())?;
+    Ok(after)
+}
+
 /// Makes the edits of plan k, where the topology and the places are those of step k. After NoMemory the topology may have any
 /// of the edits.
 pub fn edited(
@@ -49,9 +71,8 @@ pub fn edited(
     ensures fits { IfOk result (λ ground. IsKernel ground.kernel) }
 {
     let plan = job.plan(k);
-    let added = make_edits(alloc, topo, plan.edits.items())?;
+    let places = edited_places(alloc, job, k, topo, places)?;
     let shape = topo.freeze_next(alloc)?;
-    let places = with_added(alloc, places, &added, &shape)?;
     Ok(Ground {
         shape,
         places,
@@ -72,6 +93,33 @@ macro_rules! places_after {
             }
         }
     };
+}
+
+/// Makes the edits of plan k, and gives the places of step k + 1, where the topology and the places are those of step k. After
+/// NoMemory the topology may have any of the edits.
+///
+/// A shape is made only for a plan that moves points.
+pub fn places_alone(
+    alloc: Global,
+    job: &Job,
+    k: u32,
+    topo: &mut Topo,
+    places: &Arc<Positions>,
+) -> Result<Arc<Positions>, NoMemory>
+    requires job { IsJob job.now }
+    requires more { k < steps job.now }
+    requires now { IsStepOf job.now k topo.old (arc_value places.now) }
+    requires in_range { All IsPlace (arc_value places.now) }
+    ensures next { IfOk result (λ next. IsStepOf job.now (k + 1) topo.new (arc_value next)) }
+    ensures in_range { IfOk result (λ next. All IsPlace (arc_value next)) }
+{
+    match job.plan(k).kernel {
+        Kernel::Stay => Ok(edited_places(alloc, job, k, topo, places)?),
+        _ => {
+            let ground = edited(alloc, job, k, topo, places)?;
+            Ok(moved_alone(alloc, &ground)?)
+        }
+    }
 }
 
 /// Where the motion puts the points, found by the thread that asks.

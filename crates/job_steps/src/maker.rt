@@ -7,8 +7,8 @@ ghost use Rattle.run_script.specs.Jobs.{steps};
 ghost use Rattle.step_view.specs.StepView.{step_of};
 ghost use Rattle.job_steps.specs.MakerView.{maker_at};
 
-use crate::ground::{edited, moved_alone, moved_in_threads};
-use mesh_base::{CellList, Mesh, NoMemory, Point};
+use crate::ground::{edited, moved_alone, moved_in_threads, places_alone};
+use mesh_base::{Mesh, NoMemory, Point};
 use run_script::Job;
 use std::alloc::{AllocError, Global};
 use std::marker::{Model, Sync};
@@ -51,37 +51,27 @@ fn are_places(points: &[Point])
     }
 }
 
-// The topology and the places of a mesh, copied.
-fn parts_of(alloc: Global, mesh: &Mesh) -> Result<(Topo, Arc<Positions>), NoMemory>
-    ensures topology { IfOk result (λ r. IsTopologyOf mesh.now r.0) }
-    ensures places { IfOk result (λ r. arc_value r.1 ≡ mesh.now.points) }
+// The topology of a mesh, which shares its cells, and the places, which are copied.
+fn parts_of(alloc: Global, mesh: &Arc<Mesh>) -> Result<(Topo, Arc<Positions>), NoMemory>
+    ensures topology { IfOk result (λ r. IsTopologyOf (arc_value mesh.now) r.0) }
+    ensures places { IfOk result (λ r. arc_value r.1 ≡ (arc_value mesh.now).points) }
     ensures in_range { IfOk result (λ r. All IsPlace (arc_value r.1)) }
 {
-    let count = mesh.points().len() as u32;
     are_places(mesh.points());
     let places = Positions::copied(alloc, mesh.points())?;
-    let cells = CellList::of(mesh.cells().to_vec(alloc)?);
-    let topo = Topo::build(alloc, count, cells)?;
+    let topo = Topo::of_mesh(alloc, mesh.clone()?)?;
     Ok((topo, places))
 }
 
 /// Step 0, which has the job's mesh, and a maker of the steps after it. After NoMemory the job is let go.
 ///
-/// It copies the mesh, and builds its surface and its neighbours.
+/// It builds the surface and the neighbours of the mesh, and copies its places. The cells are shared with the job.
 pub fn first_step(alloc: Global, job: Arc<Job>) -> Result<(Step, Maker), NoMemory>
     ensures step { IfOk result (λ r. r.0 ≡ step_of (arc_value job) 0) }
     ensures maker { IfOk result (λ r. r.1 ≡ maker_at (arc_value job) 0) }
 {
-    let (mut topo, places) = parts_of(alloc, job.mesh())?;
-    let shape = topo.freeze_next(alloc)?;
-    let step = Step::new(job.clone()?, 0, shape, places.clone()?);
-    let maker = Maker {
-        job,
-        made: 0,
-        lost: false,
-        topo,
-        places,
-    };
+    let mut maker = Maker::new(alloc, job)?;
+    let step = maker.last_step(alloc)?;
     Ok((step, maker))
 }
 
@@ -114,12 +104,65 @@ macro_rules! next_step {
 }
 
 impl Maker {
+    /// A maker of the steps of this job, of which step 0 is made. After NoMemory the job is let go.
+    ///
+    /// It costs what `first_step` costs, but for the step: no neighbours and no surface are copied for it.
+    pub fn new(alloc: Global, job: Arc<Job>) -> Result<Maker, NoMemory>
+        ensures { IfOk result (λ maker. maker ≡ maker_at (arc_value job) 0) }
+    {
+        let (topo, places) = parts_of(alloc, job.shared_mesh())?;
+        Ok(Maker {
+            job,
+            made: 0,
+            lost: false,
+            topo,
+            places,
+        })
+    }
+
     /// The number of the last step made.
     pub fn made(&self) -> u32
         ensures made { result ≡ self.now.made }
         ensures few { result ≤ steps self.now.job }
     {
         self.made
+    }
+
+    /// The last step made. After NoMemory the maker is as it was. A lost maker answers NoMemory.
+    ///
+    /// It copies the chunks that the edits since the last step that was handed out have changed, and the surface. The other
+    /// chunks are shared with that step, and cells that no edit of the job has changed with the job.
+    pub fn last_step(&mut self, alloc: Global) -> Result<Step, NoMemory>
+        ensures step { IfOk result (λ step. step ≡ step_of self.old.job self.old.made) }
+        ensures same { self.new ≡ self.old }
+        ensures lost { self.old.lost ≡ true → IsErr result }
+    {
+        if self.lost {
+            return Err(AllocError);
+        }
+        let shape = self.topo.freeze_next(alloc)?;
+        Ok(Step::new(self.job.clone()?, self.made, shape, self.places.clone()?))
+    }
+
+    /// Makes the next step and hands nothing out, on the thread that asks: `last_step` gives that step. After NoMemory the maker
+    /// is lost, as after a refused `next`.
+    ///
+    /// It costs what `next_plain` costs. Where the plan stays, nothing is copied for the step.
+    pub fn pass_plain(&mut self, alloc: Global) -> Result<(), NoMemory>
+        requires { self.old.made < steps self.old.job }
+        ensures made { OnOk result (self.new ≡ maker_at self.old.job (self.old.made + 1)) }
+        ensures err { OnErr result (self.new ≡ record self.old { lost = true }) }
+        ensures lost { self.old.lost ≡ true → IsErr result }
+    {
+        if self.lost {
+            return Err(AllocError);
+        }
+        self.lost = true;
+        let places = places_alone(alloc, &self.job, self.made, &mut self.topo, &self.places)?;
+        self.made += 1;
+        self.places = places;
+        self.lost = false;
+        Ok(())
     }
 
     /// The next step, by as many threads as there are processors: the step after the last one made. After NoMemory the maker is

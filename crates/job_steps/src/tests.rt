@@ -191,6 +191,18 @@ fn last_alone(alloc: Global, job: &Arc<Job>) -> Result<Step, Fail> {
     Ok(step)
 }
 
+// The same, where no other step is handed out.
+fn last_passed(alloc: Global, job: &Arc<Job>) -> Result<Step, Fail> {
+    let mut maker = Maker::new(alloc, job.clone()?)?;
+    for k in 0..job.steps() {
+        if maker.made() != k {
+            return Err(Fail::new(k));
+        }
+        maker.pass_plain(alloc)?;
+    }
+    Ok(maker.last_step(alloc)?)
+}
+
 // The same, by threads.
 fn last_in_threads(
     rt: &(impl Threads + Sync),
@@ -235,15 +247,18 @@ fn is_as_wanted(alloc: Global, step: &Step, wanted: &Case) -> Result<bool, Fail>
     )
 }
 
-// Whether both ways to make the last step of a job make the one that is wanted.
+// Whether each way to make the last step of a job makes the one that is wanted.
 fn is_made(rt: &(impl Threads + Sync), alloc: Global, wanted: &Case) -> Result<bool, Fail> {
     let places = points(alloc, wanted.places)?;
     let job = job_of(alloc, places, cells(alloc, ONE_CELL)?, wanted.script)?;
     let alone = last_alone(alloc, &job)?;
+    let passed = last_passed(alloc, &job)?;
     let other = last_in_threads(rt, alloc, &job)?;
     Ok(
         alone.number() == other.number()
+            && alone.number() == passed.number()
             && is_as_wanted(alloc, &alone, wanted)?
+            && is_as_wanted(alloc, &passed, wanted)?
             && is_as_wanted(alloc, &other, wanted)?,
     )
 }

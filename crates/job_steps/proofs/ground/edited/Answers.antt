@@ -1,36 +1,13 @@
-use Rattle.std.proofs.Common.{◌∙◌, All, sym, ap, subst, length, length-append}
+use Rattle.std.proofs.Common.{◌∙◌, sym, ap}
 use Rattle.std.specs.Arc.{arc_value}
-use Rattle.std.proofs.lemmas.List.Elements.{All-append}
-use Rattle.mesh_base.specs.Place.{IsPlace}
 use Rattle.topo.specs.Topology.{mesh_at}
-use Rattle.run_script.specs.Scripts.{IsEdit}
-use Rattle.job_steps.proofs.PlanLaws.{new_points_in_range}
-use Rattle.job_steps.proofs.Played.{added-len, edited_mesh}
 use Rattle.job_steps.proofs.ground.edited.Goals as goal
 
-pub with_added-requires : goal.with_added-requires
-with_added-requires c =
-    let of_plan = c.items.ensures ∙ ap (λ p. p.edits) c.plan-plan.ensures.plan in
-    let added = c.deref.ensures.value ∙ c.in_ok-added.ensures.added in
-    added-len c.args.job.now c.args.k c.args.topo.now c.make_edits.new.topo (arc_value c.args.places.now) c.requires.now c.items.result.now of_plan c.in_ok-added.ensures.edited c.deref.result.now added
-    ∙ sym (ap (λ t. t.points) (c.deref-2.ensures ∙ c.in_ok-shape.ensures.ok))
-
 pub invariant_of-result : goal.invariant_of-result
-invariant_of-result c =
-    let of_plan = c.items.ensures ∙ ap (λ p. p.edits) c.plan-plan.ensures.plan in
-    let added = c.deref.ensures.value ∙ c.in_ok-added.ensures.added in
-    let places = arc_value c.args.places.now in
-    let in_range = new_points_in_range c.items.result.now (subst (All (λ e. IsEdit e.edit)) (sym c.items.ensures) c.plan-plan.ensures.in_range.edits) in
-    record {
-      points = ap length c.in_ok-places.ensures ∙ length-append places c.deref.result.now
-          ∙ added-len c.args.job.now c.args.k c.args.topo.now c.make_edits.new.topo places c.requires.now c.items.result.now of_plan c.in_ok-added.ensures.edited c.deref.result.now added
-          ∙ sym (ap (λ t. t.points) c.in_ok-shape.ensures.ok);
-      in_range = subst (All IsPlace) (sym c.in_ok-places.ensures) (All-append IsPlace places c.deref.result.now c.requires.in_range (subst (All IsPlace) (sym added) in_range));
-    }
+invariant_of-result c = record {
+  points = c.in_ok-places.ensures.points ∙ sym (ap (λ t. t.points) c.in_ok-shape.ensures.ok);
+  in_range = c.in_ok-places.ensures.in_range;
+}
 
 pub returns-clause-mesh : goal.returns-clause-mesh
-returns-clause-mesh c =
-    let of_plan = c.items.ensures ∙ ap (λ p. p.edits) c.plan-plan.ensures.plan in
-    let added = c.deref.ensures.value ∙ c.in_ok-added.ensures.added in
-    ap (mesh_at (arc_value c.in_ok-places.places)) c.freeze_next.ensures.same
-    ∙ edited_mesh c.args.job.now c.args.k c.args.topo.now c.make_edits.new.topo (arc_value c.args.places.now) c.requires.now c.items.result.now of_plan c.in_ok-added.ensures.edited c.deref.result.now (arc_value c.in_ok-places.places) added c.in_ok-places.ensures
+returns-clause-mesh c = ap (mesh_at (arc_value c.in_ok-places.places)) c.freeze_next.ensures.same ∙ c.in_ok-places.ensures.mesh
