@@ -19,7 +19,7 @@ use Rattle.vtk_legacy.specs.declared.stage.Stage.TheVariants as stage
 use Rattle.vtk_legacy.specs.MeshText.{fault, ◌>>=◌, blocks, blocks_within, version_front, places, counted_rows, indices, offsets, skip, after_blank_line, metadata}
 use Rattle.vtk_legacy.specs.Outcome.{IsFault}
 use Rattle.vtk_legacy.specs.Kept.{Parts, with_form, types_left}
-use Rattle.vtk_legacy.specs.Machine.{Outcome, goes_on, taking, WantsToken, Moves, Keeps, IsSpent, FaultsWith, SameText, at_end, truncated, in_block, in_section, in_between, in_values, in_type, in_tuples, in_components, in_name, in_field_count, in_field_name, in_places, in_y, in_z, in_point_type, in_point_count, in_points, in_cells, in_cell_count, in_cell_size, in_heads, in_row, in_offset_count, in_number_count, in_maybe_offsets, in_offset_word, in_offset_type, in_offsets, in_connectivity, in_number_type, in_numbers, in_type_word, in_type_count, in_types, in_attributes, in_grid, in_dataset, in_format, in_title, in_version}
+use Rattle.vtk_legacy.specs.Machine.{Outcome, goes_on, taking, WantsToken, Moves, Keeps, IsSpent, FaultsWith, SameText, at_end, truncated, in_block, in_section, in_between, in_values, in_type, in_tuples, in_components, in_name, in_field_count, in_field_name, in_places, in_y, in_z, in_point_type, in_point_count, in_points, in_cells, in_cell_count, in_cell_size, in_heads, in_row, in_offset_count, in_number_count, in_maybe_offsets, in_offset_word, in_offset_type, in_offsets, in_connectivity, in_number_type, in_filling, in_type_word, in_type_count, in_types, in_attributes, in_grid, in_dataset, in_format, in_title, in_version}
 use Rattle.vtk_legacy.proofs.StepLemmas.{IsFault-then}
 use Rattle.vtk_legacy.proofs.TokenStep.{goes_on-token}
 
@@ -52,7 +52,7 @@ unfolding in_maybe_offsets in_between in_section
 maybe-end got l e = rw e (between-end section.Types got l e)
 
 pub goes_on-end : (s : Stage) (got : Parts) (l : Left) → WantsToken s → next_token l ≡ None → goes_on s got l ≡ at_end s got (end_of l)
-unfolding goes_on in_format in_dataset in_grid in_point_count in_point_type in_places places in_y in_z in_cell_count in_cell_size in_heads counted_rows in_row indices in_offset_count in_number_count in_offset_word in_offset_type in_offsets offsets in_number_type in_numbers in_type_count in_types types_left
+unfolding goes_on in_format in_dataset in_grid in_point_count in_point_type in_places places in_y in_z in_cell_count in_cell_size in_heads counted_rows in_row indices in_offset_count in_number_count in_offset_word in_offset_type in_offsets offsets in_number_type in_filling in_type_count in_types types_left
 goes_on-end stage.Format got l w e = rw e refl
 goes_on-end stage.Dataset got l w e = rw e refl
 goes_on-end stage.Grid got l w e = rw e refl
@@ -74,7 +74,7 @@ goes_on-end (stage.PointZ n x y) got l w e = rw e refl
 goes_on-end stage.CellCount got l w e = rw e refl
 goes_on-end (stage.CellSize m) got l w e = rw e refl
 goes_on-end (stage.CellHead m room place) got l w e = rw e refl
-goes_on-end (stage.CellPoint k m room place) got l w e = rw e refl
+goes_on-end (stage.CellPoint row k m room place) got l w e = rw e refl
 goes_on-end stage.OffsetCount got l w e = rw e refl
 goes_on-end (stage.NumberCount a) got l w e = rw e refl
 goes_on-end stage.MaybeOffsets got l w e = maybe-end got l e
@@ -82,7 +82,7 @@ goes_on-end (stage.OffsetWord a b) got l w e = rw e refl
 goes_on-end (stage.OffsetType a b) got l w e = rw e refl
 goes_on-end (stage.Offset k first before b) got l w e = rw e refl
 goes_on-end (stage.NumberType b) got l w e = rw e refl
-goes_on-end (stage.Number k spot) got l w e = rw e refl
+goes_on-end (stage.Number k f) got l w e = rw e refl
 goes_on-end stage.TypeCount got l w e = rw e refl
 goes_on-end (stage.CellType k) got l w e = rw e refl
 goes_on-end stage.Passed got l w e = absurd w
@@ -183,7 +183,7 @@ spent_at (stage.PointZ n x y) got place = want_end (stage.PointZ n x y) got plac
 spent_at stage.CellCount got place = want_end stage.CellCount got place tt
 spent_at (stage.CellSize m) got place = want_end (stage.CellSize m) got place tt
 spent_at (stage.CellHead m room at) got place = want_end (stage.CellHead m room at) got place tt
-spent_at (stage.CellPoint k m room at) got place = want_end (stage.CellPoint k m room at) got place tt
+spent_at (stage.CellPoint row k m room at) got place = want_end (stage.CellPoint row k m room at) got place tt
 spent_at stage.OffsetCount got place = want_end stage.OffsetCount got place tt
 spent_at (stage.NumberCount a) got place = want_end (stage.NumberCount a) got place tt
 spent_at stage.MaybeOffsets got place = want_end stage.MaybeOffsets got place tt
@@ -191,7 +191,7 @@ spent_at (stage.OffsetWord a b) got place = want_end (stage.OffsetWord a b) got 
 spent_at (stage.OffsetType a b) got place = want_end (stage.OffsetType a b) got place tt
 spent_at (stage.Offset k first before b) got place = want_end (stage.Offset k first before b) got place tt
 spent_at (stage.NumberType b) got place = want_end (stage.NumberType b) got place tt
-spent_at (stage.Number k spot) got place = want_end (stage.Number k spot) got place tt
+spent_at (stage.Number k f) got place = want_end (stage.Number k f) got place tt
 spent_at stage.TypeCount got place = want_end stage.TypeCount got place tt
 spent_at (stage.CellType k) got place = want_end (stage.CellType k) got place tt
 

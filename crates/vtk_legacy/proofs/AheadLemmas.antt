@@ -1,25 +1,25 @@
 -- Parts that are spelled plainly, read one whole part at a time.
-use Rattle.std.proofs.Common.{◌≡◌, ℕ, suc, ◌-◌, ◌<◌, ◌≤◌, Bool, true, false, List, [], ◌∷◌, ◌++◌, length, Some, Result, Ok, Err, refl, sym, ap, subst, ◌∙◌, arith}
-use Rattle.std.specs.Prelude.{ℤ, ◌==◌}
+use Rattle.std.proofs.Common.{◌≡◌, ℕ, suc, ◌-◌, ◌<◌, ◌≤◌, Bool, true, false, List, [], ◌∷◌, length, Option, Some, None, Result, Ok, Err, refl, sym, ap, subst, ◌∙◌, arith}
+use Rattle.std.specs.Prelude.{ℤ, ◌==◌, is_none, IsSome}
 use Rattle.std.specs.Str.Parse.{digits_value}
 use Rattle.std.proofs.lemmas.Bool.{lt-ltb, le-ltb, le-leb, ne_eqb}
-use Rattle.mesh_base.specs.Mesh.{Corners, corners_of, AreDifferent}
+use Rattle.mesh_base.specs.Mesh.{Corners}
 use Rattle.oct_text.specs.Rest.{Left, Token, Rest, continued, MayCome}
 use Rattle.oct_text.specs.Numbers.{is_numeral, count_of, coordinate_of}
 use Rattle.oct_text.specs.Taken.{Takes}
 use Rattle.oct_text.specs.Ahead.{TakesCount, TakesCounts, TakesWhole, TakesWholes}
 use Rattle.vtk_legacy.specs.declared.fault.MeshFault.{MeshFault}
 use Rattle.vtk_legacy.specs.declared.gathered.CellRow.{CellRow}
-use Rattle.vtk_legacy.specs.declared.gathered.Spot.{Spot}
+use Rattle.vtk_legacy.specs.declared.gathered.Filling.{Filling}
 use Rattle.vtk_legacy.specs.declared.stage.Stage.{Stage}
 use Rattle.vtk_legacy.specs.declared.stage.Stage.TheVariants as stage
-use Rattle.vtk_legacy.specs.MeshText.{Read, Row, most_count, coordinate_taken, indexed, indices, head_taken, offset_taken, has_twins}
-use Rattle.vtk_legacy.specs.Kept.{Parts, AreBelow, with_points, with_rows, with_cells, kept, empty_row, row_at, typed_kept, next_spot, behind_spot, with_put}
+use Rattle.vtk_legacy.specs.MeshText.{Read, Row, most_count, coordinate_taken, indexed, indices, head_taken, offset_taken}
+use Rattle.vtk_legacy.specs.Kept.{Parts, Waiting, AreBelow, with_points, with_sizes, with_rows, ended, empty_row, filled, no_corners, first_row, typed_kept, with_first_kept, filling_after, got_after}
 use Rattle.vtk_legacy.specs.Outcome.{IsFault}
-use Rattle.vtk_legacy.specs.Machine.{Outcome, goes_on, taking, in_places, in_row, in_heads, in_types, in_offsets, in_numbers, Keeps, SameText, Passes, FaultsWith, Advances}
+use Rattle.vtk_legacy.specs.Machine.{Outcome, goes_on, taking, in_places, in_row, in_heads, in_types, in_offsets, in_filling, Keeps, SameText, Passes, FaultsWith, Advances}
 use Rattle.vtk_legacy.proofs.Advance.{took}
 use Rattle.vtk_legacy.proofs.TokenStep.{goes_on-token}
-use Rattle.vtk_legacy.proofs.CellLemmas.{put_all-row}
+use Rattle.vtk_legacy.proofs.CellLemmas.{fill_last-row}
 use Rattle.vtk_legacy.proofs.KeptTypes.{corners-four}
 
 -- ---- one after another
@@ -117,24 +117,24 @@ unfolding count_of
 head_is room t le numeral value = rw (numeral, value, le-ltb room 5 le) refl
 
 row_is : (m room place : ℕ) (ps : List ℕ) (got : Parts) (l l' : Left) → length ps ≡ 4 → indices got.number 4 l ≡ Ok (ps, l')
-    → in_row 4 m room place (with_rows (empty_row 4 ∷ []) got) l ≡ in_heads m room place (with_rows (record { count = 4; corners = ps } ∷ []) got) l'
+    → in_row (empty_row 4) 4 m room place got l ≡ in_heads m room place (with_rows (ended (record { count = 4; corners = ps }) ∷ []) got) l'
 unfolding in_row
 row_is m room place ps got l l' four e =
-    let row : kept ps ≡ record { count = 4; corners = ps } = rw (four, corners-four ps four) refl in
-    let rows = put_all-row 4 ps got.rows four ∙ ap (λ (q : CellRow). got.rows ++ q ∷ []) row in
-    rw e (ap (λ (rows : List CellRow). in_heads m room place (let parts : Parts = record { form = got.form; number = got.number; points = got.points; rows = rows; cells = got.cells } in parts) l') rows)
+    let same : record { count = length ps; corners = filled 0 ps no_corners } ≡ record { count = 4; corners = ps } = rw (four, corners-four ps four) refl in
+    let row = fill_last-row 4 ps four ∙ ap (λ (r : CellRow). ended r) same in
+    rw e (ap (λ (row : Waiting). in_heads m room place (with_rows (row ∷ []) got) l') row)
 
 heads_left : (m room place : ℕ) (got : Parts) (l : Left) → 0 < m → in_heads m room place got l ≡ goes_on (stage.CellHead (m - 1) room place) got l
 unfolding goes_on
 heads_left m room place got l lt = ap (λ (k : ℕ). in_heads k room place got l) (one_less m lt)
 
 four_taken : (m room place : ℕ) (got : Parts) (t : Token × Left) → 5 ≤ room → is_numeral t.0.text ≡ true → digits_value 10 t.0.text ≡ 4
-    → taking (stage.CellHead m room place) got t ≡ in_row 4 m (room - 5) place (with_rows (empty_row 4 ∷ []) got) t.1
+    → taking (stage.CellHead m room place) got t ≡ in_row (empty_row 4) 4 m (room - 5) place got t.1
 unfolding taking
 four_taken m room place got t le numeral value = rw (head_is room t le numeral value) refl
 
 four_keeps : (m room place : ℕ) (got : Parts) (r r' : Rest) (ps : List ℕ) → 0 < m → 5 ≤ room → length ps ≡ 4 → AreBelow got.number ps → TakesCounts r (4 ∷ ps) r'
-    → Keeps (stage.CellHead m room place) got r (stage.CellHead (m - 1) (room - 5) place) (with_rows (record { count = 4; corners = ps } ∷ []) got) r'
+    → Keeps (stage.CellHead m room place) got r (stage.CellHead (m - 1) (room - 5) place) (with_rows (ended (record { count = 4; corners = ps }) ∷ []) got) r'
 four_keeps m room place got r r' ps lt le four below h more none =
     let l = continued h.0 more in
     let numbers = indices_are got.number ps h.0 r' more below h.2 (may_still r h.0 more h.1.takes.ended none) in
@@ -142,38 +142,39 @@ four_keeps m room place got r r' ps lt le four below h more none =
     goes_on-token (stage.CellHead m room place) got (continued r more) (h.1.token, l) tt (h.1.takes.again more none)
     ∙ four_taken m room place got (h.1.token, l) le h.1.numeral h.1.value
     ∙ row_is m (room - 5) place ps got l (continued r' more) four numbers'
-    ∙ heads_left m (room - 5) place (with_rows (record { count = 4; corners = ps } ∷ []) got) (continued r' more) lt
+    ∙ heads_left m (room - 5) place (with_rows (ended (record { count = 4; corners = ps }) ∷ []) got) (continued r' more) lt
 
 pub four_passes : (m room place : ℕ) (got : Parts) (r r' : Rest) (ps : List ℕ) → 0 < m → 5 ≤ room → length ps ≡ 4 → AreBelow got.number ps → TakesCounts r (4 ∷ ps) r'
-    → Passes (stage.CellHead m room place) got r (stage.CellHead (m - 1) (room - 5) place) (with_rows (record { count = 4; corners = ps } ∷ []) got) r'
+    → Passes (stage.CellHead m room place) got r (stage.CellHead (m - 1) (room - 5) place) (with_rows (ended (record { count = 4; corners = ps }) ∷ []) got) r'
 four_passes m room place got r r' ps lt le four below h =
     let behind = counts_behind (4 ∷ ps) r r' h in
     (four_keeps m room place got r r' ps lt le four below h, behind.0, behind.1)
 
 -- ---- types
 
-no_twins : (c : Corners) → AreDifferent c → has_twins c ≡ false
-no_twins c d = rw (ne_eqb c.0 c.1 d.0, ne_eqb c.0 c.2 d.1, ne_eqb c.0 c.3 d.2, ne_eqb c.1 c.2 d.3, ne_eqb c.1 c.3 d.4, ne_eqb c.2 c.3 d.5) refl
+some_is : (cell : Option Corners) → IsSome cell → is_none cell ≡ false
+some_is None h = absurd cc
+some_is (Some c) h = refl
 
-ten_is : (row : CellRow) (t : Token × Left) → is_numeral t.0.text ≡ true → digits_value 10 t.0.text ≡ 10 → row.count ≡ 4 → AreDifferent (corners_of row.corners) → typed_kept row t ≡ Ok (10, t.1)
-ten_is row t numeral value four d = rw (numeral, value, four, no_twins (corners_of row.corners) d) refl
+ten_is : (row : Waiting) (t : Token × Left) → is_numeral t.0.text ≡ true → digits_value 10 t.0.text ≡ 10 → row.size ≡ 4 → IsSome row.cell → typed_kept row t ≡ Ok (10, t.1)
+ten_is row t numeral value four some = rw (numeral, value, four, some_is row.cell some) refl
 
 types_left : (m : ℕ) (got : Parts) (l : Left) → 0 < m → in_types m got l ≡ goes_on (stage.CellType (m - 1)) got l
 unfolding goes_on
 types_left m got l lt = ap (λ (k : ℕ). in_types k got l) (one_less m lt)
 
-ten_keeps : (m : ℕ) (got : Parts) (r r' : Rest) (row : CellRow) → 0 < m → row ≡ row_at got.rows (length got.rows - m - 1) → row.count ≡ 4 → AreDifferent (corners_of row.corners) → TakesCount r 10 r'
-    → Keeps (stage.CellType m) got r (stage.CellType (m - 1)) (with_cells (Some (corners_of row.corners) ∷ []) got) r'
+ten_keeps : (m : ℕ) (got : Parts) (r r' : Rest) → 0 < m → (first_row got.rows).size ≡ 4 → IsSome (first_row got.rows).cell → TakesCount r 10 r'
+    → Keeps (stage.CellType m) got r (stage.CellType (m - 1)) (with_first_kept got) r'
 unfolding taking
-ten_keeps m got r r' row lt is four d h =
-    took (stage.CellType m) (stage.CellType (m - 1)) got (with_cells (Some (corners_of row.corners) ∷ []) got) r r' h.token tt h.takes
-    (λ after. rw (← is, ten_is row (h.token, after) h.numeral h.value four d) (types_left m (with_cells (Some (corners_of row.corners) ∷ []) got) after lt))
+ten_keeps m got r r' lt four some h =
+    took (stage.CellType m) (stage.CellType (m - 1)) got (with_first_kept got) r r' h.token tt h.takes
+    (λ after. rw (ten_is (first_row got.rows) (h.token, after) h.numeral h.value four some) (types_left m (with_first_kept got) after lt))
 
-pub ten_passes : (m : ℕ) (got : Parts) (r r' : Rest) (row : CellRow) → 0 < m → row ≡ row_at got.rows (length got.rows - m - 1) → row.count ≡ 4 → AreDifferent (corners_of row.corners) → TakesCount r 10 r'
-    → Passes (stage.CellType m) got r (stage.CellType (m - 1)) (with_cells (Some (corners_of row.corners) ∷ []) got) r'
-ten_passes m got r r' row lt is four d h =
+pub ten_passes : (m : ℕ) (got : Parts) (r r' : Rest) → 0 < m → (first_row got.rows).size ≡ 4 → IsSome (first_row got.rows).cell → TakesCount r 10 r'
+    → Passes (stage.CellType m) got r (stage.CellType (m - 1)) (with_first_kept got) r'
+ten_passes m got r r' lt four some h =
     let behind = behind_one r r' r' h.token h.takes (behind_none r' r' refl) in
-    (ten_keeps m got r r' row lt is four d h, behind.0, behind.1)
+    (ten_keeps m got r r' lt four some h, behind.0, behind.1)
 
 -- ---- a step behind what was read on
 
@@ -198,33 +199,33 @@ unfolding goes_on
 offsets_on m o numbers got l lt = ap (λ (k : ℕ). in_offsets k false o numbers got l) (one_less m lt)
 
 offset_keeps : (m before numbers o : ℕ) (got : Parts) (r r' : Rest) → 0 < m → before ≤ o → o ≤ numbers → numbers ≤ most_count → TakesCount r o r'
-    → Keeps (stage.Offset m false before numbers) got r (stage.Offset (m - 1) false o numbers) (with_rows (empty_row (o - before) ∷ []) got) r'
+    → Keeps (stage.Offset m false before numbers) got r (stage.Offset (m - 1) false o numbers) (with_sizes ((o - before) ∷ []) got) r'
 unfolding taking
 offset_keeps m before numbers o got r r' lt low high most h =
-    let new = with_rows (empty_row (o - before) ∷ []) got in
+    let new = with_sizes ((o - before) ∷ []) got in
     took (stage.Offset m false before numbers) (stage.Offset (m - 1) false o numbers) got new r r' h.token tt h.takes
     (λ after. rw (not_last m lt, offset_is before numbers o (h.token, after) low high (omega (arith, high, most)) h.numeral h.value) (offsets_on m o numbers new after lt))
 
 pub offset_passes : (m before numbers o : ℕ) (got : Parts) (r r' : Rest) → 0 < m → before ≤ o → o ≤ numbers → numbers ≤ most_count → TakesCount r o r'
-    → Passes (stage.Offset m false before numbers) got r (stage.Offset (m - 1) false o numbers) (with_rows (empty_row (o - before) ∷ []) got) r'
+    → Passes (stage.Offset m false before numbers) got r (stage.Offset (m - 1) false o numbers) (with_sizes ((o - before) ∷ []) got) r'
 offset_passes m before numbers o got r r' lt low high most h =
     let behind = behind_one r r' r' h.token h.takes (behind_none r' r' refl) in
     (offset_keeps m before numbers o got r r' lt low high most h, behind.0, behind.1)
 
-numbers_on : (m : ℕ) (s : Spot) (got : Parts) (l : Left) → 0 < m → in_numbers m s got l ≡ goes_on (stage.Number (m - 1) s) got l
+numbers_on : (m : ℕ) (f : Filling) (got : Parts) (l : Left) → 0 < m → in_filling m f got l ≡ goes_on (stage.Number (m - 1) f) got l
 unfolding goes_on
-numbers_on m s got l lt = ap (λ (k : ℕ). in_numbers k s got l) (one_less m lt)
+numbers_on m f got l lt = ap (λ (k : ℕ). in_filling k f got l) (one_less m lt)
 
-number_keeps : (m p : ℕ) (spot s : Spot) (got : Parts) (r r' : Rest) → 0 < m → s ≡ next_spot got.rows spot → p < got.number → TakesCount r p r'
-    → Keeps (stage.Number m spot) got r (stage.Number (m - 1) (behind_spot s)) (with_put s.row s.at p got) r'
+number_keeps : (m p : ℕ) (f : Filling) (got : Parts) (r r' : Rest) → 0 < m → p < got.number → TakesCount r p r'
+    → Keeps (stage.Number m f) got r (stage.Number (m - 1) (filling_after f p got.sizes)) (got_after f got) r'
 unfolding taking
-number_keeps m p spot s got r r' lt is below h =
-    let new = with_put s.row s.at p got in
-    took (stage.Number m spot) (stage.Number (m - 1) (behind_spot s)) got new r r' h.token tt h.takes
-    (λ after. rw (← is, indexed_is got.number p (h.token, after) h.numeral h.value below) (numbers_on m (behind_spot s) new after lt))
+number_keeps m p f got r r' lt below h =
+    let after-f = filling_after f p got.sizes in
+    took (stage.Number m f) (stage.Number (m - 1) after-f) got (got_after f got) r r' h.token tt h.takes
+    (λ after. rw (indexed_is got.number p (h.token, after) h.numeral h.value below) (numbers_on m after-f (got_after f got) after lt))
 
-pub number_passes : (m p : ℕ) (spot s : Spot) (got : Parts) (r r' : Rest) → 0 < m → s ≡ next_spot got.rows spot → p < got.number → TakesCount r p r'
-    → Passes (stage.Number m spot) got r (stage.Number (m - 1) (behind_spot s)) (with_put s.row s.at p got) r'
-number_passes m p spot s got r r' lt is below h =
+pub number_passes : (m p : ℕ) (f : Filling) (got : Parts) (r r' : Rest) → 0 < m → p < got.number → TakesCount r p r'
+    → Passes (stage.Number m f) got r (stage.Number (m - 1) (filling_after f p got.sizes)) (got_after f got) r'
+number_passes m p f got r r' lt below h =
     let behind = behind_one r r' r' h.token h.takes (behind_none r' r' refl) in
-    (number_keeps m p spot s got r r' lt is below h, behind.0, behind.1)
+    (number_keeps m p f got r r' lt below h, behind.0, behind.1)

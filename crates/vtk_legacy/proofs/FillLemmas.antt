@@ -1,86 +1,45 @@
 -- Rows that are filled one number after another are the numbers cut by the offsets.
-use Rattle.std.proofs.Common.{◌≡◌, ℕ, zero, suc, ◌+◌, ◌-◌, ◌<◌, ◌≤◌, Bool, true, false, cond, eqb, ltb, List, [], ◌∷◌, ◌++◌, length, map, take, drop, Ok, Err, refl, sym, ap, ◌∙◌, arith, append_assoc, length-append, subst}
+use Rattle.std.proofs.Common.{◌≡◌, ℕ, zero, suc, ◌+◌, ◌-◌, ◌<◌, ◌≤◌, Bool, true, false, cond, List, [], ◌∷◌, ◌++◌, length, map, take, drop, Ok, Err, refl, sym, ap, ◌∙◌, arith, subst}
 use Rattle.std.specs.Prelude.{◌&&◌, ◌==◌, nat_le}
-use Rattle.std.specs.List.{prefix_len}
-use Rattle.std.proofs.lemmas.Bool.{lt-ltb, le-ltb, leb-true, eqb-true, ne_eqb}
-use Rattle.std.proofs.lemmas.List.{append-nil, length-take, length-drop, take-append-drop, drop-drop}
-use Rattle.std.proofs.Math.Seq.{get_or-append_seam, set-append_seam, drop-append_seam}
+use Rattle.std.proofs.lemmas.Bool.{lt-ltb, le-ltb, leb-true, eqb-true}
+use Rattle.std.proofs.lemmas.List.{length-take, length-drop, take-append-drop, drop-drop}
 use Rattle.oct_text.specs.Rest.{Left}
 use Rattle.vtk_legacy.specs.declared.gathered.CellRow.{CellRow}
-use Rattle.vtk_legacy.specs.declared.gathered.Spot.{Spot}
+use Rattle.vtk_legacy.specs.declared.gathered.Filling.{Filling}
 use Rattle.vtk_legacy.specs.MeshText.{Fault, ◌>>=◌, Read, Row, token, count_taken, most_count, offsets, offset_taken, offset_sized, offset_fits, rows_from, rows_of, with_first}
-use Rattle.vtk_legacy.specs.Kept.{kept, empty_row, filled, no_corners, row_at, put_at, put_from, next_spot, behind_spot, offset_sizes, with_corner, is_empty_row}
-use Rattle.vtk_legacy.specs.Machine.{first_spot}
+use Rattle.vtk_legacy.specs.Kept.{Waiting, kept, ended, bare, empty_row, filled, no_corners, put_from, begin_from, fresh, filled_here, next_size, behind_next, passed, offset_sizes, with_corner}
 use Rattle.vtk_legacy.proofs.StepLemmas.{bind_ok}
 
--- ---- where the next number goes
-
-abbrev spot_at : ℕ → ℕ → Spot
-spot_at row at = record { row = row; at = at }
-
-row-seam : (D : List CellRow) (r : CellRow) (R : List CellRow) → row_at (D ++ r ∷ R) (length D) ≡ r
-row-seam D r R = get_or-append_seam D r R (empty_row 0)
-
-within : (D : List CellRow) (r : CellRow) (R : List CellRow) → ltb (length D) (length (D ++ r ∷ R)) ≡ true
-within D r R = lt-ltb (length D) (length (D ++ r ∷ R)) (omega (arith, length-append D (r ∷ R)))
-
-spot_here : (D : List CellRow) (r : CellRow) (R : List CellRow) (at : ℕ) → at < r.count → next_spot (D ++ r ∷ R) (spot_at (length D) at) ≡ spot_at (length D) at
-spot_here D r R at lt = rw (within D r R, row-seam D r R, lt-ltb at r.count lt) refl
-
-behind-seam : (D : List CellRow) (r : CellRow) (R : List CellRow) → drop (length D + 1) (D ++ r ∷ R) ≡ R
-behind-seam D r R =
-    let one : length D + 1 ≡ length (D ++ r ∷ []) = omega (arith, length-append D (r ∷ [])) in
-    ap (λ (n : ℕ). drop n (D ++ r ∷ R)) one ∙ ap (drop (length (D ++ r ∷ []))) (sym (append_assoc D (r ∷ []) R)) ∙ drop-append_seam (D ++ r ∷ []) R
-
-spot_full : (D : List CellRow) (r : CellRow) (R : List CellRow) (at : ℕ) → r.count ≤ at → next_spot (D ++ r ∷ R) (spot_at (length D) at) ≡ spot_at (length D + 1 + prefix_len is_empty_row R) 0
-spot_full D r R at le = rw (within D r R, row-seam D r R, le-ltb at r.count le, behind-seam D r R) refl
-
-spot_none : (D : List CellRow) → next_spot D (spot_at (length D) 0) ≡ spot_at (length D) 0
-spot_none D = rw (le-ltb (length D) (length D) (omega arith)) refl
-
-spot_some : (D : List CellRow) (q : CellRow) (R : List CellRow) (c : ℕ) → q.count ≡ c → next_spot (D ++ q ∷ R) (spot_at (length D) 0) ≡ spot_at (length D + prefix_len is_empty_row (q ∷ R)) 0
-spot_some D q R zero e = spot_full D q R 0 (omega arith) ∙ rw e (ap (λ (n : ℕ). spot_at n 0) (omega arith))
-spot_some D q R (suc c) e =
-    let some : eqb (suc c) 0 ≡ false = ne_eqb (suc c) 0 (λ h. omega arith) in
-    spot_here D q R 0 (omega arith) ∙ ap (λ (n : ℕ). spot_at n 0) (rw (e, some) (omega arith))
-
-spot_fresh : (D R : List CellRow) → next_spot (D ++ R) (spot_at (length D) 0) ≡ spot_at (length D + prefix_len is_empty_row R) 0
-spot_fresh D [] = ap (λ (rs : List CellRow). next_spot rs (spot_at (length D) 0)) (append-nil D) ∙ spot_none D ∙ ap (λ (n : ℕ). spot_at n 0) (omega arith)
-spot_fresh D (q ∷ R) = spot_some D q R q.count refl
+abbrev filling : CellRow → ℕ → Filling
+filling row at = record { row = row; at = at }
 
 -- ---- numbers go into a row
 
-put-seam : (D : List CellRow) (r : CellRow) (R : List CellRow) (at p : ℕ) → put_at (length D) at p (D ++ r ∷ R) ≡ D ++ with_corner r at p ∷ R
-put-seam D r R at p = rw (row-seam D r R) (set-append_seam D r R (with_corner r at p))
-
-put_here : (D : List CellRow) (r : CellRow) (R : List CellRow) (at p : ℕ) (ns : List ℕ) → at < r.count
-    → put_from (spot_at (length D) at) (p ∷ ns) (D ++ r ∷ R) ≡ put_from (spot_at (length D) (at + 1)) ns (D ++ with_corner r at p ∷ R)
+put_here : (f : Filling) (p : ℕ) (ps sizes : List ℕ) → f.at < f.row.count → put_from f (p ∷ ps) sizes ≡ put_from (filled_here f p) ps sizes
 unfolding put_from
-put_here D r R at p ns lt =
-    ap (λ (s : Spot). put_from (behind_spot s) ns (put_at s.row s.at p (D ++ r ∷ R))) (spot_here D r R at lt)
-    ∙ ap (put_from (spot_at (length D) (at + 1)) ns) (put-seam D r R at p)
+put_here f p ps sizes lt = rw (lt-ltb f.at f.row.count lt) refl
 
 -- the numbers of a row go into it
-fill_row : (ps : List ℕ) (D : List CellRow) (r : CellRow) (R : List CellRow) (at : ℕ) (ns : List ℕ) → at + length ps ≡ r.count
-    → put_from (spot_at (length D) at) (ps ++ ns) (D ++ r ∷ R) ≡ put_from (spot_at (length D) r.count) ns (D ++ record { count = r.count; corners = filled at ps r.corners } ∷ R)
-fill_row [] D r R at ns e = ap (λ (n : ℕ). put_from (spot_at (length D) n) ns (D ++ r ∷ R)) (omega (arith, e))
-fill_row (p ∷ ps) D r R at ns e = put_here D r R at p (ps ++ ns) (omega (arith, e)) ∙ fill_row ps D (with_corner r at p) R (at + 1) ns (omega (arith, e))
+fill_row : (ps : List ℕ) (r : CellRow) (at : ℕ) (ns sizes : List ℕ) → at + length ps ≡ r.count
+    → put_from (filling r at) (ps ++ ns) sizes ≡ put_from (filling (record { count = r.count; corners = filled at ps r.corners }) r.count) ns sizes
+fill_row [] r at ns sizes e = ap (λ (n : ℕ). put_from (filling r n) ns sizes) (omega (arith, e))
+fill_row (p ∷ ps) r at ns sizes e = put_here (filling r at) p (ps ++ ns) sizes (omega (arith, e)) ∙ fill_row ps (with_corner r at p) (at + 1) ns sizes (omega (arith, e))
 
-by_spot : (ns : List ℕ) (s s' : Spot) (rows : List CellRow) → next_spot rows s ≡ next_spot rows s' → put_from s ns rows ≡ put_from s' ns rows
-unfolding put_from
-by_spot [] s s' rows e = refl
-by_spot (p ∷ ns) s s' rows e = ap (λ (x : Spot). put_from (behind_spot x) ns (put_at x.row x.at p rows)) e
+-- the rows behind a full one
+abbrev more_rows : List ℕ → List ℕ → List Waiting
+more_rows [] sizes = map bare sizes
+more_rows (p ∷ ps) sizes = passed sizes ++ put_from (filled_here (fresh (next_size sizes)) p) ps (behind_next sizes)
 
 -- a full row is behind
-pass_on : (D : List CellRow) (r : CellRow) (R : List CellRow) (ns : List ℕ)
-    → put_from (spot_at (length D) r.count) ns (D ++ r ∷ R) ≡ put_from (spot_at (length (D ++ r ∷ [])) 0) ns ((D ++ r ∷ []) ++ R)
-pass_on D r R ns =
-    let one : length (D ++ r ∷ []) ≡ length D + 1 = omega (arith, length-append D (r ∷ [])) in
-    let fresh = spot_fresh (D ++ r ∷ []) R in
-    let full = spot_full D r R r.count (omega arith) in
-    by_spot ns (spot_at (length D) r.count) (spot_at (length (D ++ r ∷ [])) 0) (D ++ r ∷ R)
-    (full ∙ ap (λ (n : ℕ). spot_at (n + prefix_len is_empty_row R) 0) (sym one) ∙ sym fresh ∙ ap (λ (rs : List CellRow). next_spot rs (spot_at (length (D ++ r ∷ [])) 0)) (append_assoc D (r ∷ []) R))
-    ∙ ap (put_from (spot_at (length (D ++ r ∷ [])) 0) ns) (sym (append_assoc D (r ∷ []) R))
+pass_on : (r : CellRow) (ns sizes : List ℕ) → put_from (filling r r.count) ns sizes ≡ ended r ∷ more_rows ns sizes
+unfolding put_from
+pass_on r [] sizes = refl
+pass_on r (p ∷ ps) sizes = rw (le-ltb r.count r.count (omega arith)) refl
+
+-- a row without points is behind
+pass_bare : (ns sizes : List ℕ) → more_rows ns (0 ∷ sizes) ≡ bare 0 ∷ more_rows ns sizes
+pass_bare [] sizes = refl
+pass_bare (p ∷ ps) sizes = refl
 
 -- ---- rows one after another
 
@@ -94,27 +53,34 @@ abbrev Climbs : ℕ → ℕ → List ℕ → Type 0
 Climbs before b [] = before ≡ b
 Climbs before b (o ∷ os) = (before ≤ o) × (o ≤ b) × Climbs o b os
 
-none_left : (ns : List ℕ) (s : Spot) (rows : List CellRow) → length ns ≡ 0 → put_from s ns rows ≡ rows
-unfolding put_from
-none_left [] s rows e = refl
-none_left (n ∷ ns) s rows e = absurd (omega (arith, e))
+no_numbers : (ns : List ℕ) → length ns ≡ 0 → more_rows ns [] ≡ []
+no_numbers [] e = refl
+no_numbers (n ∷ ns) e = absurd (omega (arith, e))
 
-fill : (os : List ℕ) (D : List CellRow) (before b : ℕ) (ns : List ℕ) → Climbs before b os → length ns ≡ b - before
-    → put_from (spot_at (length D) 0) ns (D ++ offset_sizes false before os) ≡ D ++ map kept (cut before os ns)
+-- a row with points gets its numbers
+some_points : (k : ℕ) (ns sizes : List ℕ) → suc k ≤ length ns → more_rows ns (suc k ∷ sizes) ≡ kept (take (suc k) ns) ∷ more_rows (drop (suc k) ns) sizes
+some_points k [] sizes le = absurd (omega (arith, le))
+some_points k (p ∷ ps) sizes le =
+    let ns : List ℕ = p ∷ ps in
+    let r = empty_row (suc k) in
+    let front : length (take (suc k) ns) ≡ suc k = omega (arith, length-take (suc k) ns, le) in
+    sym (put_here (filling r 0) p ps sizes (omega arith))
+    ∙ ap (λ (xs : List ℕ). put_from (filling r 0) xs sizes) (sym (take-append-drop (suc k) ns))
+    ∙ fill_row (take (suc k) ns) r 0 (drop (suc k) ns) sizes (omega (arith, front))
+    ∙ ap (λ (n : ℕ). put_from (filling (record { count = n; corners = filled 0 (take (suc k) ns) no_corners }) n) (drop (suc k) ns) sizes) (sym front)
+    ∙ pass_on (record { count = length (take (suc k) ns); corners = filled 0 (take (suc k) ns) no_corners }) (drop (suc k) ns) sizes
+
+fill_one : (k : ℕ) (ns sizes : List ℕ) → k ≤ length ns → more_rows ns (k ∷ sizes) ≡ kept (take k ns) ∷ more_rows (drop k ns) sizes
+fill_one zero ns sizes le = pass_bare ns sizes
+fill_one (suc k) ns sizes le = some_points k ns sizes le
+
+fill : (os : List ℕ) (before b : ℕ) (ns : List ℕ) → Climbs before b os → length ns ≡ b - before → more_rows ns (offset_sizes false before os) ≡ map kept (cut before os ns)
 unfolding offset_sizes
-fill [] D before b ns climbs len = none_left ns (spot_at (length D) 0) (D ++ []) (omega (arith, climbs, len))
-fill (o ∷ os) D before b ns climbs len =
+fill [] before b ns climbs len = no_numbers ns (omega (arith, climbs, len))
+fill (o ∷ os) before b ns climbs len =
     let k = o - before in
-    let front : length (take k ns) ≡ k = omega (arith, length-take k ns, len, climbs.0, climbs.1) in
-    let R = offset_sizes false o os in
-    let row : CellRow = kept (take k ns) in
-    let same : record { count = k; corners = filled 0 (take k ns) no_corners } ≡ row = rw front refl in
-    ap (λ (xs : List ℕ). put_from (spot_at (length D) 0) xs (D ++ empty_row k ∷ R)) (sym (take-append-drop k ns))
-    ∙ fill_row (take k ns) D (empty_row k) R 0 (drop k ns) (omega (arith, front))
-    ∙ ap (λ (n : ℕ). put_from (spot_at (length D) n) (drop k ns) (D ++ record { count = n; corners = filled 0 (take k ns) no_corners } ∷ R)) (sym front)
-    ∙ pass_on D row R (drop k ns)
-    ∙ fill os (D ++ row ∷ []) o b (drop k ns) climbs.2 (omega (arith, length-drop k ns, len, climbs.0, climbs.1))
-    ∙ append_assoc D (row ∷ []) (map kept (cut o os (drop k ns)))
+    fill_one k ns (offset_sizes false o os) (omega (arith, len, climbs.0, climbs.1))
+    ∙ ap (λ (rows : List Waiting). kept (take k ns) ∷ rows) (fill os o b (drop k ns) climbs.2 (omega (arith, length-drop k ns, len, climbs.0, climbs.1)))
 
 -- the rows between the offsets are the numbers, cut
 rows-cut : (os : List ℕ) (before b : ℕ) (numbers : List ℕ) → Climbs before b os → rows_from numbers before os ≡ cut before os (drop before numbers)
@@ -187,20 +153,35 @@ climbs_first k b l x e =
     let rest = climbs k o.0.0 b o.0.1 os.0 os.1 (λ none. last-at k true 0 b o.0.0 none good) in
     subst (ClimbsFromZero b) (ok_first (o.0.0 ∷ os.0.0, os.0.1) x os.2) (fits.0, rest)
 
-no_rows : (ns : List ℕ) (s : Spot) → put_from s ns [] ≡ []
-unfolding put_from
-no_rows [] s = refl
-no_rows (n ∷ ns) s = no_rows ns (behind_spot (next_spot [] s))
+-- where numbers come, some row has points
+next_some : (k : ℕ) (sizes : List ℕ) → (k ≡ 0 → 0 < next_size sizes) → 0 < next_size (k ∷ sizes)
+next_some zero sizes h = h refl
+next_some (suc k) sizes h = omega arith
 
-by_offsets : (os numbers : List ℕ) (b : ℕ) → ClimbsFromZero b os → length numbers ≡ b → put_from first_spot numbers (offset_sizes true 0 os) ≡ map kept (rows_of numbers os)
+some_size : (os : List ℕ) (before b : ℕ) → Climbs before b os → before < b → 0 < next_size (offset_sizes false before os)
+unfolding offset_sizes
+some_size [] before b climbs lt = absurd (omega (arith, climbs, lt))
+some_size (o ∷ os) before b climbs lt = next_some (o - before) (offset_sizes false o os) (λ none. some_size os o b climbs.2 (omega (arith, none, climbs.0, lt)))
+
+-- the first row begins
+begun : (ns sizes : List ℕ) → (0 < length ns → 0 < next_size sizes) → begin_from ns sizes ≡ more_rows ns sizes
+begun [] sizes some = refl
+begun (p ∷ ps) sizes some = ap (λ (rows : List Waiting). passed sizes ++ rows) (put_here (fresh (next_size sizes)) p ps (behind_next sizes) (some (omega arith)))
+
+by_offsets : (os numbers : List ℕ) (b : ℕ) → ClimbsFromZero b os → length numbers ≡ b → begin_from numbers (offset_sizes true 0 os) ≡ map kept (rows_of numbers os)
 unfolding offset_sizes
 by_offsets [] numbers b none len = absurd none
 by_offsets (o ∷ os) numbers b from len =
-    fill os [] o b numbers from.1 (omega (arith, from.0, len))
+    begun numbers (offset_sizes false o os) (λ some. some_size os o b from.1 (omega (arith, from.0, len, some)))
+    ∙ fill os o b numbers from.1 (omega (arith, from.0, len))
     ∙ ap (map kept) (ap (λ (n : ℕ). cut o os (drop n numbers)) (sym from.0) ∙ sym (rows-cut os o b numbers from.1))
 
-pub filled-cut : (a b : ℕ) (l : Left) (os : List ℕ × Left) (numbers : List ℕ) → offsets a true 0 b l ≡ Ok os → length numbers ≡ b → put_from first_spot numbers (offset_sizes true 0 os.0) ≡ map kept (rows_of numbers os.0)
+no_rows : (ns : List ℕ) → length ns ≡ 0 → begin_from ns [] ≡ []
+no_rows [] e = refl
+no_rows (n ∷ ns) e = absurd (omega (arith, e))
+
+pub filled-cut : (a b : ℕ) (l : Left) (os : List ℕ × Left) (numbers : List ℕ) → (a ≡ 0 → b ≡ 0) → offsets a true 0 b l ≡ Ok os → length numbers ≡ b → begin_from numbers (offset_sizes true 0 os.0) ≡ map kept (rows_of numbers os.0)
 unfolding offsets offset_sizes
-filled-cut zero b l os numbers e len =
-    subst (λ (xs : List ℕ). put_from first_spot numbers (offset_sizes true 0 xs) ≡ map kept (rows_of numbers xs)) (ok_first ([], l) os e) (no_rows numbers first_spot)
-filled-cut (suc k) b l os numbers e len = by_offsets os.0 numbers b (climbs_first k b l os e) len
+filled-cut zero b l os numbers none e len =
+    subst (λ (xs : List ℕ). begin_from numbers (offset_sizes true 0 xs) ≡ map kept (rows_of numbers xs)) (ok_first ([], l) os e) (no_rows numbers (len ∙ none refl))
+filled-cut (suc k) b l os numbers none e len = by_offsets os.0 numbers b (climbs_first k b l os e) len

@@ -20,3 +20,5 @@ pub mod WrittenWords
 pub mod WrittenRules
 pub mod WrittenAgain
 pub mod AheadLemmas
+pub mod TableLemmas
+pub mod GatheredLemmas

@@ -1,17 +1,18 @@
 -- One step of a reader.
-use Rattle.std.proofs.Common.{◌≡◌, ℕ, zero, suc, ◌<◌, sub-one, arith, ◌*◌, ◌-◌, Bool, Result, Ok, Err, refl, sym, subst, ◌∙◌}
+use Rattle.std.proofs.Common.{◌≡◌, ℕ, zero, suc, ◌<◌, sub-one, arith, ◌*◌, ◌-◌, Bool, List, [], ◌∷◌, map, Result, Ok, Err, refl, sym, ap, subst, ◌∙◌, append_assoc}
 use Rattle.std.proofs.lemmas.List.{append-nil}
 use Rattle.oct_text.specs.Rest.{Left}
 use Rattle.vtk_legacy.specs.declared.fault.MeshKind.TheVariants as kinds
-use Rattle.vtk_legacy.specs.MeshText.{Fault, ◌>>=◌, token, count, most_count, numeric, skip, indices, offsets, array, arrays, blocks, places}
+use Rattle.vtk_legacy.specs.MeshText.{Fault, ◌>>=◌, token, count, most_count, numeric, skip, Read, indexed, indices, with_first, offsets, array, arrays, blocks, places}
 use Rattle.vtk_legacy.specs.declared.stage.Section.TheVariants as section
 use Rattle.vtk_legacy.specs.declared.stage.Stage.{Stage}
-use Rattle.vtk_legacy.specs.declared.gathered.Spot.{Spot}
+use Rattle.vtk_legacy.specs.declared.gathered.CellRow.{CellRow}
+use Rattle.vtk_legacy.specs.declared.gathered.Filling.{Filling}
 use Rattle.vtk_legacy.specs.declared.fault.MeshFault.{MeshFault}
 use Rattle.vtk_legacy.specs.declared.fault.MeshFault.TheVariants as errors
 use Rattle.vtk_legacy.specs.Outcome.{IsFault}
-use Rattle.vtk_legacy.specs.Kept.{Parts, put_all, put_from, types_left, offset_sizes}
-use Rattle.vtk_legacy.specs.Machine.{in_between, in_section, in_arrays, in_name, in_components, in_tuples, in_type, in_values, in_places, in_row, in_heads, in_types, in_offsets, in_numbers, Outcome, Moves}
+use Rattle.vtk_legacy.specs.Kept.{Parts, Waiting, ended, bare, fill_last, put_from, begin_from, passed, behind_next, next_size, fresh, types_left, offset_sizes, with_rows, with_next, with_filled}
+use Rattle.vtk_legacy.specs.Machine.{in_between, in_section, in_arrays, in_name, in_components, in_tuples, in_type, in_values, in_places, in_row, in_heads, in_types, in_offsets, in_filling, in_numbers, in_type_word, in_attributes, Outcome, Moves}
 
 pub bind_assoc : {A B C : Type 0} (r : Result A Fault) (f : A → Result B Fault) (g : B → Result C Fault) → ((r >>= f) >>= g) ≡ (r >>= λ x. f x >>= g)
 bind_assoc (Ok x) f g = refl
@@ -63,21 +64,45 @@ pub moves_by : (f g : Left → Outcome) (r : Result Stage MeshFault) (got : Part
 moves_by f g (Ok new) got same moves = λ after. same after ∙ moves after
 moves_by f g (Err e) got same moves = λ after. subst (λ (x : Outcome). IsFault e x) (sym (same after)) (moves after)
 
-pub in_row_none : (k m room place : ℕ) (got : Parts) (l : Left) → k ≡ 0 → in_row k m room place got l ≡ in_heads m room place got l
-unfolding in_row indices put_all
-in_row_none k m room place got l e = rw e refl
+pub in_row_none : (row : CellRow) (k m room place : ℕ) (got : Parts) (l : Left) → k ≡ 0 → in_row row k m room place got l ≡ in_heads m room place (with_rows (ended row ∷ []) got) l
+unfolding in_row indices fill_last
+in_row_none row k m room place got l e = rw e refl
 
 pub in_types_none : (got : Parts) (l : Left) → in_types 0 got l ≡ in_between section.Attributes got l
-unfolding types_left in_types in_between in_section
+unfolding types_left in_types in_between in_section in_attributes
 in_types_none got l = rw append-nil refl
 
 pub in_offsets_none : (first : Bool) (before b : ℕ) (got : Parts) (l : Left) → in_offsets 0 first before b got l ≡ in_between (section.Connectivity b) got l
 unfolding offsets offset_sizes in_offsets in_between in_section
 in_offsets_none first before b got l = rw append-nil refl
 
-pub in_numbers_none : (spot : Spot) (got : Parts) (l : Left) → in_numbers 0 spot got l ≡ in_between section.Types got l
-unfolding indices put_from in_numbers in_between in_section
-in_numbers_none spot got l = refl
+pub in_filling_none : (f : Filling) (got : Parts) (l : Left) → in_filling 0 f got l ≡ in_between section.Types (with_filled (map bare got.sizes) (with_rows (ended f.row ∷ []) got)) l
+unfolding indices put_from in_filling in_between in_section
+in_filling_none f got l =
+    ap (λ (rows : List Waiting). blocks l >>= in_type_word (let parts : Parts = record { form = got.form; number = got.number; points = got.points; sizes = []; rows = rows; cells = got.cells } in parts))
+    (sym (append_assoc got.rows (ended f.row ∷ []) (map bare got.sizes)))
+
+pub in_numbers_none : (got : Parts) (l : Left) → in_numbers 0 got l ≡ in_between section.Types (with_filled (map bare got.sizes) got) l
+unfolding indices in_numbers in_between in_section
+in_numbers_none got l = refl
+
+-- the first row begins
+begins : (k : ℕ) (got : Parts) (r : Read ℕ)
+    → ((r >>= λ p. indices got.number k p.1 >>= with_first p.0) >>= λ ps. blocks ps.1 >>= in_type_word (with_filled (begin_from ps.0 got.sizes) got))
+    ≡ ((r >>= λ p. indices got.number k p.1 >>= with_first p.0) >>= λ ps. blocks ps.1 >>= in_type_word (with_filled (put_from (fresh (next_size got.sizes)) ps.0 (behind_next got.sizes)) (with_next got)))
+begins k got (Err e) = refl
+begins k got (Ok p) =
+    let f = fresh (next_size got.sizes) in
+    bind_assoc (indices got.number k p.1) (with_first p.0) _
+    ∙ bind_same (indices got.number k p.1) _ _ (λ ps.
+    ap (λ (rows : List Waiting). blocks ps.1 >>= in_type_word (let parts : Parts = record { form = got.form; number = got.number; points = got.points; sizes = []; rows = rows; cells = got.cells } in parts))
+    (sym (append_assoc got.rows (passed got.sizes) (put_from f (p.0 ∷ ps.0) (behind_next got.sizes)))))
+    ∙ sym (bind_assoc (indices got.number k p.1) (with_first p.0) (λ ps. blocks ps.1 >>= in_type_word (with_filled (put_from f ps.0 (behind_next got.sizes)) (with_next got))))
+
+pub in_numbers_some : (k : ℕ) (got : Parts) (l : Left) → 0 < k → in_numbers k got l ≡ in_filling (suc (k - 1)) (fresh (next_size got.sizes)) (with_next got) l
+unfolding in_numbers in_filling indices
+in_numbers_some zero got l lt = absurd (omega arith)
+in_numbers_some (suc k) got l lt = rw sub-one (begins k got (token l >>= indexed got.number))
 
 -- what went well went well in both parts
 pub bind_ok : {A B : Type 0} (r : Result A Fault) (f : A → Result B Fault) (y : B) → (r >>= f) ≡ Ok y → (x : A) × (r ≡ Ok x) × (f x ≡ Ok y)

@@ -1,10 +1,10 @@
 -- What comes of a text, from each stage that wants a token, is decided by the next token and what is left behind it.
-use Rattle.std.proofs.Common.{◌≡◌, ℕ, suc, ◌+◌, ◌-◌, Bool, true, false, cond, List, [], ◌∷◌, ◌++◌, length, map, Option, Some, Result, Ok, Err, refl, sym, ap, ◌∙◌, append_assoc}
+use Rattle.std.proofs.Common.{◌≡◌, ℕ, suc, ◌+◌, ◌-◌, Bool, true, false, cond, List, [], ◌∷◌, ◌++◌, length, drop, map, Option, Some, Result, Ok, Err, refl, sym, ap, ◌∙◌, append_assoc}
 use Rattle.std.specs.Prelude.{codes, ℤ, ◌==◌}
 use Rattle.mesh_base.specs.Place.{Place}
-use Rattle.mesh_base.specs.Mesh.{Corners, corners_of}
+use Rattle.mesh_base.specs.Mesh.{Corners}
 use Rattle.oct_text.specs.Rest.{Left, Token, next_token}
-use Rattle.vtk_legacy.specs.declared.gathered.Spot.{Spot}
+use Rattle.vtk_legacy.specs.declared.gathered.Filling.{Filling}
 use Rattle.vtk_legacy.specs.declared.gathered.CellRow.{CellRow}
 use Rattle.vtk_legacy.specs.declared.stage.Block.{Block}
 use Rattle.vtk_legacy.specs.declared.stage.Block.TheVariants as block
@@ -13,11 +13,11 @@ use Rattle.vtk_legacy.specs.declared.stage.Section.TheVariants as section
 use Rattle.vtk_legacy.specs.declared.stage.Stage.{Stage}
 use Rattle.vtk_legacy.specs.declared.stage.Stage.TheVariants as stage
 use Rattle.vtk_legacy.specs.Words.{word_is}
-use Rattle.vtk_legacy.specs.MeshText.{Fault, ◌>>=◌, Read, Row, token, count, most_count, coordinate, coordinate_taken, skip, point_of, places, with_first, arrays, field, metadata, blocks, indices, indexed, counted_rows, head_taken, offsets, offset_taken, with_cell}
-use Rattle.vtk_legacy.specs.Kept.{Parts, with_points, with_rows, with_cells, with_last, with_put, with_numbers, kept, empty_row, put_all, put_from, offset_sizes, types_left, typed_kept, row_at, next_spot, behind_spot}
-use Rattle.vtk_legacy.specs.Machine.{Outcome, goes_on, taking, taking_block, taking_between, taking_section, taking_maybe, with_put_last, with_type, WantsToken, in_block, in_section, in_between, in_arrays, in_values, in_type, in_tuples, in_components, in_name, in_field_count, in_field_name, in_places, in_y, in_z, in_point_type, in_point_count, in_points, in_cells, in_cell_count, in_cell_size, in_heads, in_row, in_offset_count, in_number_count, in_maybe_offsets, in_offset_word, in_offset_type, in_offsets, in_connectivity, in_number_type, in_numbers, in_type_word, in_type_count, in_types, in_attributes, in_grid, in_dataset, in_format}
+use Rattle.vtk_legacy.specs.MeshText.{Fault, ◌>>=◌, Read, Row, token, count, most_count, coordinate, coordinate_taken, skip, point_of, places, with_first, arrays, field, metadata, blocks, indices, indexed, counted_rows, head_taken, offsets, offset_taken}
+use Rattle.vtk_legacy.specs.Kept.{Parts, Waiting, with_points, with_sizes, with_rows, with_cells, with_last, with_filled, with_next, kept, ended, empty_row, fill_last, put_from, filled_here, fresh, has_room, next_size, behind_next, passed, filling_after, got_after, offset_sizes, types_left, typed_kept, first_row, with_kept, with_first_kept, without_first}
+use Rattle.vtk_legacy.specs.Machine.{Outcome, goes_on, taking, taking_block, taking_between, taking_section, taking_maybe, with_point, with_type, WantsToken, in_block, in_section, in_between, in_arrays, in_values, in_type, in_tuples, in_components, in_name, in_field_count, in_field_name, in_places, in_y, in_z, in_point_type, in_point_count, in_points, in_cells, in_cell_count, in_cell_size, in_heads, in_row, in_offset_count, in_number_count, in_maybe_offsets, in_offset_word, in_offset_type, in_offsets, in_connectivity, in_number_type, in_filling, in_type_word, in_type_count, in_types, in_attributes, in_grid, in_dataset, in_format}
 use Rattle.vtk_legacy.proofs.StepLemmas.{bind_assoc, bind_same, bind_ok_same}
-use Rattle.vtk_legacy.proofs.CellLemmas.{indices-length, put_all-row}
+use Rattle.vtk_legacy.proofs.CellLemmas.{indices-length, fill_last-row}
 use Rattle.vtk_legacy.proofs.Shrinks.{blocks-at}
 
 block-token : (b : Block) (l : Left) (t : Token × Left) → next_token l ≡ Some t → in_block b l ≡ taking_block b t
@@ -73,7 +73,7 @@ abbrev more_places : ℕ → Place × Left → Read (List Place)
 more_places n p = places n p.1 >>= with_first p.0
 
 with_points-twice : (ps qs : List Place) (got : Parts) → with_points qs (with_points ps got) ≡ with_points (ps ++ qs) got
-with_points-twice ps qs got = ap (λ (points : List Place). let parts : Parts = record { form = got.form; number = got.number; points = points; rows = got.rows; cells = got.cells } in parts) (append_assoc got.points ps qs)
+with_points-twice ps qs got = ap (λ (points : List Place). let parts : Parts = record { form = got.form; number = got.number; points = points; sizes = got.sizes; rows = got.rows; cells = got.cells } in parts) (append_assoc got.points ps qs)
 
 places-more : (n : ℕ) (got : Parts) (p : Place) (l : Left) → ((places n l >>= with_first p) >>= behind_points got) ≡ in_places n (with_points (p ∷ []) got) l
 unfolding in_places
@@ -105,13 +105,13 @@ abbrev more_rows : ℕ → ℕ → ℕ → ℕ → Row × Left → Read (List Ro
 more_rows n m room place row = counted_rows n m room place row.1 >>= with_first row.0
 
 row-kept : (c : ℕ) (ps : Row) (rs : List Row) (got : Parts) → length ps ≡ c
-    → with_rows (map kept rs) (with_last c ps (with_rows (empty_row c ∷ []) got)) ≡ with_rows (map kept (ps ∷ rs)) got
+    → with_rows (map kept rs) (with_last c ps (empty_row c) got) ≡ with_rows (map kept (ps ∷ rs)) got
 row-kept c ps rs got e =
-    ap (λ (rows : List CellRow). let parts : Parts = record { form = got.form; number = got.number; points = got.points; rows = rows; cells = got.cells } in parts)
-    (ap (λ (rows : List CellRow). rows ++ map kept rs) (put_all-row c ps got.rows e) ∙ append_assoc got.rows (kept ps ∷ []) (map kept rs))
+    ap (λ (rows : List Waiting). let parts : Parts = record { form = got.form; number = got.number; points = got.points; sizes = got.sizes; rows = rows; cells = got.cells } in parts)
+    (ap (λ (row : Waiting). (got.rows ++ row ∷ []) ++ map kept rs) (fill_last-row c ps e) ∙ append_assoc got.rows (kept ps ∷ []) (map kept rs))
 
 rows-more : (c m room place : ℕ) (got : Parts) (l : Left)
-    → ((indices got.number c l >>= more_rows got.number m room place) >>= behind_rows got) ≡ in_row c m room place (with_rows (empty_row c ∷ []) got) l
+    → ((indices got.number c l >>= more_rows got.number m room place) >>= behind_rows got) ≡ in_row (empty_row c) c m room place got l
 unfolding in_row in_heads
 rows-more c m room place got l =
     bind_assoc (indices got.number c l) (more_rows got.number m room place) (behind_rows got)
@@ -122,34 +122,34 @@ rows-more c m room place got l =
 
 head-more : (m room place : ℕ) (got : Parts) (r : Read ℕ)
     → ((r >>= λ c. indices got.number c.0 c.1 >>= more_rows got.number m (room - (1 + c.0)) place) >>= behind_rows got)
-    ≡ (r >>= λ c. in_row c.0 m (room - (1 + c.0)) place (with_rows (empty_row c.0 ∷ []) got) c.1)
+    ≡ (r >>= λ c. in_row (empty_row c.0) c.0 m (room - (1 + c.0)) place got c.1)
 head-more m room place got (Ok c) = rows-more c.0 m (room - (1 + c.0)) place got c.1
 head-more m room place got (Err e) = refl
 
 -- a point number and those behind it
-point-more : (k m room place : ℕ) (got : Parts) (r : Read ℕ)
-    → ((r >>= λ p. indices got.number k p.1 >>= with_first p.0) >>= λ ps. in_heads m room place (with_last (suc k) ps.0 got) ps.1)
-    ≡ (r >>= λ p. in_row k m room place (with_put_last k p.0 got) p.1)
-unfolding in_row put_all
-point-more k m room place got (Ok p) = bind_assoc (indices got.number k p.1) (with_first p.0) (λ ps. in_heads m room place (with_last (suc k) ps.0 got) ps.1)
-point-more k m room place got (Err e) = refl
+point-more : (row : CellRow) (k m room place : ℕ) (got : Parts) (r : Read ℕ)
+    → ((r >>= λ p. indices got.number k p.1 >>= with_first p.0) >>= λ ps. in_heads m room place (with_last (suc k) ps.0 row got) ps.1)
+    ≡ (r >>= λ p. in_row (with_point row k p.0) k m room place got p.1)
+unfolding in_row fill_last
+point-more row k m room place got (Ok p) = bind_assoc (indices got.number k p.1) (with_first p.0) (λ ps. in_heads m room place (with_last (suc k) ps.0 row got) ps.1)
+point-more row k m room place got (Err e) = refl
 
 -- ---- an offset and those behind it
 
 abbrev behind_offsets : Bool → ℕ → ℕ → Parts → List ℕ × Left → Outcome
-behind_offsets first before b got os = blocks os.1 >>= in_connectivity b (with_rows (offset_sizes first before os.0) got)
+behind_offsets first before b got os = blocks os.1 >>= in_connectivity b (with_sizes (offset_sizes first before os.0) got)
 
 size-more : (first : Bool) (before o : ℕ) (os : List ℕ) (got : Parts)
-    → with_rows (offset_sizes first before (o ∷ os)) got ≡ with_rows (offset_sizes false o os) (cond first got (with_rows (empty_row (o - before) ∷ []) got))
+    → with_sizes (offset_sizes first before (o ∷ os)) got ≡ with_sizes (offset_sizes false o os) (cond first got (with_sizes ((o - before) ∷ []) got))
 unfolding offset_sizes
 size-more true before o os got = refl
 size-more false before o os got =
-    ap (λ (rows : List CellRow). let parts : Parts = record { form = got.form; number = got.number; points = got.points; rows = rows; cells = got.cells } in parts)
-    (sym (append_assoc got.rows (empty_row (o - before) ∷ []) (offset_sizes false o os)))
+    ap (λ (sizes : List ℕ). let parts : Parts = record { form = got.form; number = got.number; points = got.points; sizes = sizes; rows = got.rows; cells = got.cells } in parts)
+    (sym (append_assoc got.sizes ((o - before) ∷ []) (offset_sizes false o os)))
 
 offset-more : (k : ℕ) (first : Bool) (before b : ℕ) (got : Parts) (r : Read ℕ)
     → ((r >>= λ o. offsets k false o.0 b o.1 >>= with_first o.0) >>= behind_offsets first before b got)
-    ≡ (r >>= λ o. in_offsets k false o.0 b (cond first got (with_rows (empty_row (o.0 - before) ∷ []) got)) o.1)
+    ≡ (r >>= λ o. in_offsets k false o.0 b (cond first got (with_sizes ((o.0 - before) ∷ []) got)) o.1)
 unfolding in_offsets
 offset-more k first before b got (Ok o) =
     bind_assoc (offsets k false o.0 b o.1) (with_first o.0) (behind_offsets first before b got)
@@ -158,47 +158,62 @@ offset-more k first before b got (Err e) = refl
 
 -- ---- a point number of the list and those behind it
 
-number-more : (k : ℕ) (spot : Spot) (got : Parts) (r : Read ℕ)
-    → ((r >>= λ p. indices got.number k p.1 >>= with_first p.0) >>= λ ps. blocks ps.1 >>= in_type_word (with_numbers spot ps.0 got))
-    ≡ (r >>= λ p. in_numbers k (behind_spot (next_spot got.rows spot)) (with_put (next_spot got.rows spot).row (next_spot got.rows spot).at p.0 got) p.1)
-unfolding in_numbers put_from
-number-more k spot got (Ok p) = bind_assoc (indices got.number k p.1) (with_first p.0) (λ ps. blocks ps.1 >>= in_type_word (with_numbers spot ps.0 got))
-number-more k spot got (Err e) = refl
+-- one more number in the row in work, or in the next one
+fill-more : (room : Bool) (f : Filling) (p : ℕ) (ps : List ℕ) (got : Parts)
+    → with_filled (cond room (put_from (filled_here f p) ps got.sizes) (ended f.row ∷ (passed got.sizes ++ put_from (filled_here (fresh (next_size got.sizes)) p) ps (behind_next got.sizes)))) got
+    ≡ with_filled (put_from (cond room (filled_here f p) (filled_here (fresh (next_size got.sizes)) p)) ps (cond room got (with_next (with_rows (ended f.row ∷ []) got))).sizes)
+    (cond room got (with_next (with_rows (ended f.row ∷ []) got)))
+fill-more true f p ps got = refl
+fill-more false f p ps got =
+    let rest = put_from (filled_here (fresh (next_size got.sizes)) p) ps (behind_next got.sizes) in
+    ap (λ (rows : List Waiting). let parts : Parts = record { form = got.form; number = got.number; points = got.points; sizes = []; rows = rows; cells = got.cells } in parts)
+    (sym (append_assoc got.rows (ended f.row ∷ []) (passed got.sizes ++ rest)) ∙ sym (append_assoc (got.rows ++ ended f.row ∷ []) (passed got.sizes) rest))
+
+same-number : (room : Bool) (f : Filling) (got : Parts) → (cond room got (with_next (with_rows (ended f.row ∷ []) got))).number ≡ got.number
+same-number true f got = refl
+same-number false f got = refl
+
+number-more : (k : ℕ) (f : Filling) (got : Parts) (r : Read ℕ)
+    → ((r >>= λ p. indices got.number k p.1 >>= with_first p.0) >>= λ ps. blocks ps.1 >>= in_type_word (with_filled (put_from f ps.0 got.sizes) got))
+    ≡ (r >>= λ p. in_filling k (filling_after f p.0 got.sizes) (got_after f got) p.1)
+unfolding in_filling put_from
+number-more k f got (Ok p) =
+    bind_assoc (indices got.number k p.1) (with_first p.0) (λ ps. blocks ps.1 >>= in_type_word (with_filled (put_from f ps.0 got.sizes) got))
+    ∙ bind_same (indices got.number k p.1) _ _ (λ ps. ap (λ (parts : Parts). blocks ps.1 >>= in_type_word parts) (fill-more (has_room f) f p.0 ps.0 got))
+    ∙ ap (λ (n : ℕ). indices n k p.1 >>= λ ps. blocks ps.1 >>= in_type_word (with_filled (put_from (filling_after f p.0 got.sizes) ps.0 (got_after f got).sizes) (got_after f got))) (sym (same-number (has_room f) f got))
+number-more k f got (Err e) = refl
 
 -- ---- a type and those behind it
-
-abbrev last_row : ℕ → Parts → CellRow
-last_row k got = row_at got.rows (length got.rows - k - 1)
 
 abbrev behind_types : Parts → List (Option Corners) × Left → Outcome
 behind_types got cs = blocks cs.1 >>= in_attributes (with_cells cs.0 got)
 
-cell-more : (ten : Bool) (c : Corners) (cs : List (Option Corners)) (got : Parts)
-    → with_cells (cond ten (Some c ∷ cs) cs) got ≡ with_cells cs (cond ten (with_cells (Some c ∷ []) got) got)
-cell-more true c cs got =
-    ap (λ (cells : List (Option Corners)). let parts : Parts = record { form = got.form; number = got.number; points = got.points; rows = got.rows; cells = cells } in parts)
-    (sym (append_assoc got.cells (Some c ∷ []) cs))
-cell-more false c cs got = refl
+-- the end looks at the points and cells alone
+cell-more : (ten : Bool) (cs : List (Option Corners)) (got : Parts) (l : Left)
+    → in_attributes (with_cells (cond ten ((first_row got.rows).cell ∷ cs) cs) got) l ≡ in_attributes (with_cells cs (cond ten (with_first_kept got) (without_first got))) l
+unfolding in_attributes
+cell-more true cs got l = rw (append_assoc got.cells ((first_row got.rows).cell ∷ []) cs) refl
+cell-more false cs got l = refl
 
-same-rows : (ten : Bool) (c : Corners) (got : Parts) → (cond ten (with_cells (Some c ∷ []) got) got).rows ≡ got.rows
-same-rows true c got = refl
-same-rows false c got = refl
+same-rows : (ten : Bool) (got : Parts) → (cond ten (with_first_kept got) (without_first got)).rows ≡ drop 1 got.rows
+same-rows true got = refl
+same-rows false got = refl
 
 type-more : (k : ℕ) (got : Parts) (r : Read ℕ)
-    → ((r >>= λ type. types_left k got.rows type.1 >>= with_cell type.0 (corners_of (last_row k got).corners)) >>= behind_types got)
-    ≡ (r >>= λ type. in_types k (with_type k got type.0) type.1)
+    → ((r >>= λ type. types_left k (drop 1 got.rows) type.1 >>= with_kept type.0 (first_row got.rows).cell) >>= behind_types got)
+    ≡ (r >>= λ type. in_types k (with_type type.0 got) type.1)
 unfolding in_types
 type-more k got (Ok type) =
-    let c = corners_of (last_row k got).corners in
-    bind_assoc (types_left k got.rows type.1) (with_cell type.0 c) (behind_types got)
-    ∙ bind_same (types_left k got.rows type.1) _ _ (λ cs. ap (λ (parts : Parts). blocks cs.1 >>= in_attributes parts) (cell-more (type.0 == 10) c cs.0 got))
-    ∙ ap (λ (rows : List CellRow). types_left k rows type.1 >>= λ cs. behind_types (with_type k got type.0) cs) (sym (same-rows (type.0 == 10) c got))
+    let cell = (first_row got.rows).cell in
+    bind_assoc (types_left k (drop 1 got.rows) type.1) (with_kept type.0 cell) (behind_types got)
+    ∙ bind_same (types_left k (drop 1 got.rows) type.1) _ _ (λ cs. bind_same (blocks cs.1) _ _ (λ l. cell-more (type.0 == 10) cs.0 got l))
+    ∙ ap (λ (rows : List Waiting). types_left k rows type.1 >>= λ cs. behind_types (with_type type.0 got) cs) (sym (same-rows (type.0 == 10) got))
 type-more k got (Err e) = refl
 
 -- ---- every stage
 
 pub goes_on-token : (s : Stage) (got : Parts) (l : Left) (t : Token × Left) → WantsToken s → next_token l ≡ Some t → goes_on s got l ≡ taking s got t
-unfolding goes_on taking in_format in_dataset in_grid in_point_count in_point_type in_places places in_y in_z in_cell_count in_cell_size in_heads counted_rows in_row indices in_offset_count in_number_count in_maybe_offsets in_offset_word in_offset_type in_offsets offsets in_number_type in_numbers in_type_count in_types types_left
+unfolding goes_on taking in_format in_dataset in_grid in_point_count in_point_type in_places places in_y in_z in_cell_count in_cell_size in_heads counted_rows in_row indices in_offset_count in_number_count in_maybe_offsets in_offset_word in_offset_type in_offsets offsets in_number_type in_filling in_type_count in_types types_left
 goes_on-token stage.Format got l t w e = rw e refl
 goes_on-token stage.Dataset got l t w e = rw e refl
 goes_on-token stage.Grid got l t w e = rw e refl
@@ -216,7 +231,7 @@ goes_on-token (stage.PointZ n x y) got l t w e = rw e refl
 goes_on-token stage.CellCount got l t w e = rw e refl
 goes_on-token (stage.CellSize m) got l t w e = rw e refl
 goes_on-token (stage.CellHead m room place) got l t w e = rw e (head-more m room place got (head_taken room t))
-goes_on-token (stage.CellPoint k m room place) got l t w e = rw e (point-more k m room place got (indexed got.number t))
+goes_on-token (stage.CellPoint row k m room place) got l t w e = rw e (point-more row k m room place got (indexed got.number t))
 goes_on-token stage.OffsetCount got l t w e = rw e refl
 goes_on-token (stage.NumberCount a) got l t w e = rw e refl
 goes_on-token stage.MaybeOffsets got l t w e = maybe-token got l t e
@@ -224,7 +239,7 @@ goes_on-token (stage.OffsetWord a b) got l t w e = rw e refl
 goes_on-token (stage.OffsetType a b) got l t w e = rw e refl
 goes_on-token (stage.Offset k first before b) got l t w e = rw e (offset-more k first before b got (offset_taken first (k == 0) before b t))
 goes_on-token (stage.NumberType b) got l t w e = rw e refl
-goes_on-token (stage.Number k spot) got l t w e = rw e (number-more k spot got (indexed got.number t))
+goes_on-token (stage.Number k f) got l t w e = rw e (number-more k f got (indexed got.number t))
 goes_on-token stage.TypeCount got l t w e = rw e refl
-goes_on-token (stage.CellType k) got l t w e = rw e (type-more k got (typed_kept (last_row k got) t))
+goes_on-token (stage.CellType k) got l t w e = rw e (type-more k got (typed_kept (first_row got.rows) t))
 goes_on-token stage.Passed got l t w e = absurd w

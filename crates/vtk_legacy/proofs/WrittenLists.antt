@@ -1,15 +1,15 @@
 -- Lines that are put word by word, and lists of cells of which some are absent.
-use Rattle.std.proofs.Common.{◌≡◌, ℕ, zero, suc, ◌+◌, ◌<◌, ◌≤◌, List, [], ◌∷◌, ◌++◌, length, get_or, take, map, flat_map, filter, Option, Some, None, Result, OnOk, refl, sym, ap, subst, ◌∙◌, append_assoc, arith, add-one}
+use Rattle.std.proofs.Common.{◌≡◌, ℕ, zero, suc, ◌+◌, ◌<◌, ◌≤◌, List, [], ◌∷◌, ◌++◌, length, get_or, take, map, flat_map, filter, Option, Some, None, Result, OnOk, refl, sym, ap, subst, ◌∙◌, append_assoc, length-append, arith, add-one}
 use Rattle.std.specs.List.{repeat}
-use Rattle.std.specs.Prelude.{count_by, codes}
+use Rattle.std.specs.Prelude.{count_by, codes, decimal}
 use Rattle.std.specs.Option.{is_some}
-use Rattle.std.proofs.lemmas.List.{append-nil, take_all, take_more, flat_map_more, take-take, take_at, length-take}
+use Rattle.std.proofs.lemmas.List.{append-nil, map-append, take_all, take_more, flat_map_more, take-take, take_at, length-take}
 use Rattle.std.proofs.lemmas.List.Sums.{length-filter}
 use Rattle.std.proofs.lemmas.List.Folds.{flat_map-map}
 use Rattle.std.proofs.lemmas.Grind.{flat_map-append}
 use Rattle.mesh_base.specs.Mesh.{MeshView, Corners, live}
 use Rattle.mesh_base.specs.Place.{Place}
-use Rattle.vtk_legacy.specs.Written.{line, first_lines, point_line, point_lines, cell_line, cell_lines, type_lines, mesh_spelling}
+use Rattle.vtk_legacy.specs.Written.{line, first_lines, point_line, point_lines, cell_line, cell_lines, type_lines, mesh_spelling, points_spelling, count_spelling, cells_spelling, types_spelling}
 
 -- ---- what was there before is kept
 
@@ -85,27 +85,55 @@ all_points new old head points i le h =
     h ∙ ap (λ (l : List Place). (old ++ head) ++ flat_map (λ (p : Place). line (point_line p)) l) (take_all i points le)
     ∙ ap (λ (l : List ℕ). (old ++ head) ++ l) (sym (flat_map-map line point_line points)) ∙ append_assoc old head (flat_map line (map point_line points))
 
-pub all_cells : (new old head : List ℕ) (cells : List (Option Corners)) (i : ℕ) → length cells ≤ i → new ≡ (old ++ head) ++ flat_map maybe_line (take i cells) → new ≡ old ++ (head ++ flat_map line (map cell_line (live cells)))
-all_cells new old head cells i le h =
-    h ∙ ap (λ (l : List (Option Corners)). (old ++ head) ++ flat_map maybe_line l) (take_all i cells le)
-    ∙ ap (λ (l : List ℕ). (old ++ head) ++ l) (sym (live-lines cells)) ∙ append_assoc old head (flat_map line (map cell_line (live cells)))
+pub all_cells : (new old : List ℕ) (cells : List (Option Corners)) (i : ℕ) → length cells ≤ i → new ≡ old ++ flat_map maybe_line (take i cells) → new ≡ old ++ cells_spelling cells
+all_cells new old cells i le h =
+    h ∙ ap (λ (l : List (Option Corners)). old ++ flat_map maybe_line l) (take_all i cells le)
+    ∙ ap (λ (l : List ℕ). old ++ l) (sym (live-lines cells))
 
-pub all_types : (new old head : List ℕ) (cells : List Corners) (i : ℕ) → length cells ≡ i → new ≡ (old ++ head) ++ repeat i (codes "10" ++ 10 ∷ []) → new ≡ old ++ (head ++ flat_map line (map (λ _. codes "10" ∷ []) cells))
-all_types new old head cells i is h =
-    h ∙ ap (λ (n : ℕ). (old ++ head) ++ repeat n (codes "10" ++ 10 ∷ [])) (sym is)
-    ∙ ap (λ (l : List ℕ). (old ++ head) ++ l) (sym (same-lines cells (codes "10"))) ∙ append_assoc old head (flat_map line (map (λ _. codes "10" ∷ []) cells))
+-- the first lines and the points
+pub all_front : (old one new : List ℕ) (points : List Place) → one ≡ old ++ flat_map line first_lines → new ≡ one ++ flat_map line (point_lines points) → new ≡ old ++ points_spelling points
+all_front old one new points a b =
+    b ∙ ap (λ (l : List ℕ). l ++ flat_map line (point_lines points)) a ∙ append_assoc old (flat_map line first_lines) (flat_map line (point_lines points))
+    ∙ ap (λ (l : List ℕ). old ++ l) (sym (flat_map-append line first_lines (point_lines points)))
 
--- all lines, part by part
-pub all_lines : (old one two three : List ℕ) (mesh : MeshView) → one ≡ old ++ flat_map line first_lines → two ≡ one ++ flat_map line (point_lines mesh.points) → three ≡ two ++ flat_map line (cell_lines (live mesh.cells))
-    → three ++ flat_map line (type_lines (live mesh.cells)) ≡ old ++ mesh_spelling mesh
+-- the text is that of its parts
+pub parts_text : (mesh : MeshView) → mesh_spelling mesh ≡ points_spelling mesh.points ++ (count_spelling (length (live mesh.cells)) ++ (cells_spelling mesh.cells ++ types_spelling (length (live mesh.cells))))
 unfolding mesh_spelling
-all_lines old one two three mesh a b c =
+parts_text mesh =
+    let cells = live mesh.cells in
     let p = point_lines mesh.points in
-    let q = cell_lines (live mesh.cells) in
-    let r = type_lines (live mesh.cells) in
-    let whole : mesh_spelling mesh ≡ flat_map line first_lines ++ (flat_map line p ++ (flat_map line q ++ flat_map line r)) =
-    flat_map-append line first_lines (p ++ (q ++ r)) ∙ ap (λ (l : List ℕ). flat_map line first_lines ++ l) (flat_map-append line p (q ++ r) ∙ ap (λ (l : List ℕ). flat_map line p ++ l) (flat_map-append line q r)) in
-    regroup old one two three (flat_map line first_lines) (flat_map line p) (flat_map line q) (flat_map line r) a b c ∙ ap (λ (l : List ℕ). old ++ l) (sym whole)
+    let q = cell_lines cells in
+    let r = type_lines cells in
+    let head = count_spelling (length cells) in
+    let types : flat_map line r ≡ types_spelling (length cells) =
+    ap (λ (l : List ℕ). line (codes "CELL_TYPES" ∷ decimal (length cells) ∷ []) ++ l) (same-lines cells (codes "10")) in
+    ap (flat_map line) (sym (append_assoc first_lines p (q ++ r)))
+    ∙ flat_map-append line (first_lines ++ p) (q ++ r)
+    ∙ ap (λ (l : List ℕ). points_spelling mesh.points ++ l)
+    (flat_map-append line q r ∙ append_assoc head (cells_spelling mesh.cells) (flat_map line r) ∙ ap (λ (l : List ℕ). head ++ (cells_spelling mesh.cells ++ l)) types)
+
+pub live-append : (a b : List (Option Corners)) → live (a ++ b) ≡ live a ++ live b
+live-append [] b = refl
+live-append (None ∷ a) b = live-append a b
+live-append (Some c ∷ a) b = ap (λ (l : List Corners). c ∷ l) (live-append a b)
+
+pub chunks_text : (a b : List (Option Corners)) → cells_spelling (a ++ b) ≡ cells_spelling a ++ cells_spelling b
+chunks_text a b =
+    ap (λ (l : List Corners). flat_map line (map cell_line l)) (live-append a b)
+    ∙ ap (flat_map line) (map-append cell_line (live a) (live b))
+    ∙ flat_map-append line (map cell_line (live a)) (map cell_line (live b))
+
+pub chunks_live : (a b : List (Option Corners)) → length (live (a ++ b)) ≡ length (live a) + length (live b)
+chunks_live a b = ap (λ (l : List Corners). length l) (live-append a b) ∙ length-append (live a) (live b)
+
+-- all parts, one after another
+pub all_parts : (old one two three new : List ℕ) (mesh : MeshView) (count : ℕ) → count ≡ length (live mesh.cells) → one ≡ old ++ points_spelling mesh.points → two ≡ one ++ count_spelling count → three ≡ two ++ cells_spelling mesh.cells
+    → new ≡ three ++ types_spelling count → new ≡ old ++ mesh_spelling mesh
+all_parts old one two three new mesh count is a b c d =
+    let n = length (live mesh.cells) in
+    d ∙ ap (λ (k : ℕ). three ++ types_spelling k) is
+    ∙ regroup old one two three (points_spelling mesh.points) (count_spelling n) (cells_spelling mesh.cells) (types_spelling n) a (b ∙ ap (λ (k : ℕ). one ++ count_spelling k) is) c
+    ∙ ap (λ (l : List ℕ). old ++ l) (sym (parts_text mesh))
 
 -- ---- meshes without absent cells
 

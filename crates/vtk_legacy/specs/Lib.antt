@@ -6,6 +6,7 @@ pub mod Metadata
 pub mod Kinds
 pub mod Outcome
 pub mod Kept
+pub mod Table
 pub mod Reader
 pub mod Machine
 pub mod Written

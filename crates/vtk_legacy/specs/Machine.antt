@@ -1,12 +1,13 @@
 -- How a reader works: what comes of the rest of a text, from each of its stages. A text's meaning is defined without it, in MeshText.
 use Rattle.std.specs.Prelude.{◌≡◌, ℕ, suc, ◌+◌, ◌-◌, ◌*◌, ◌<◌, ◌≤◌, ◌==◌, Bool, true, false, if◌then◌else◌, List, [], ◌∷◌, length, map, Option, Some, None, Result, Ok, Err, ℤ, codes}
-use Rattle.mesh_base.specs.Mesh.{MeshView, corners_of}
+use Rattle.mesh_base.specs.Mesh.{MeshView}
 use Rattle.oct_text.specs.Rest.{Left, Token, next_token, Rest, continued, MayCome}
 use Rattle.vtk_legacy.specs.declared.fault.MeshKind.TheVariants as kinds
 use Rattle.vtk_legacy.specs.declared.fault.MeshFault.{MeshFault}
 use Rattle.vtk_legacy.specs.declared.gathered.CellForm.{CellForm}
 use Rattle.vtk_legacy.specs.declared.gathered.CellForm.TheVariants as form
-use Rattle.vtk_legacy.specs.declared.gathered.Spot.{Spot}
+use Rattle.vtk_legacy.specs.declared.gathered.CellRow.{CellRow}
+use Rattle.vtk_legacy.specs.declared.gathered.Filling.{Filling}
 use Rattle.vtk_legacy.specs.declared.stage.Block.{Block}
 use Rattle.vtk_legacy.specs.declared.stage.Block.TheVariants as block
 use Rattle.vtk_legacy.specs.declared.stage.Section.{Section}
@@ -16,7 +17,7 @@ use Rattle.vtk_legacy.specs.declared.stage.Stage.TheVariants as stage
 use Rattle.vtk_legacy.specs.Words.{word_is}
 use Rattle.vtk_legacy.specs.Outcome.{IsFault}
 use Rattle.vtk_legacy.specs.MeshText.{Fault, fault, ◌>>=◌, token, expect, expected, count, count_taken, most_count, numeric, numeric_taken, coordinate, coordinate_taken, skip, places, arrays, after_blank_line, metadata, blocks, version, title, format, format_taken, indices, indexed, counted_rows, head_taken, offsets, offset_taken, numbers_taken, count_again, mesh_of, ends}
-use Rattle.vtk_legacy.specs.Kept.{Parts, with_form, with_number, with_points, with_rows, with_cells, with_last, with_put, kept, empty_row, offset_sizes, with_numbers, next_spot, behind_spot, typed_kept, types_left, row_at}
+use Rattle.vtk_legacy.specs.Kept.{Parts, with_form, with_number, with_points, with_sizes, with_rows, with_cells, with_corner, with_last, with_filled, kept, empty_row, offset_sizes, put_from, begin_from, filling_after, got_after, first_row, typed_kept, types_left, with_first_kept, without_first}
 
 -- ---- blocks
 
@@ -75,22 +76,23 @@ in_type_word got l = expect (codes "cell_types") kinds.Keyword l >>= in_type_cou
 
 -- ---- cells with offsets
 
--- so many point numbers are left
-unfoldable pub in_numbers : ℕ → Spot → Parts → Left → Outcome
-in_numbers k spot got l = indices got.number k l >>= λ ps. blocks ps.1 >>= in_type_word (with_numbers spot ps.0 got)
+-- so many point numbers are left, and this row is in work
+unfoldable pub in_filling : ℕ → Filling → Parts → Left → Outcome
+in_filling k filling got l = indices got.number k l >>= λ ps. blocks ps.1 >>= in_type_word (with_filled (put_from filling ps.0 got.sizes) got)
 
-abbrev pub first_spot : Spot
-first_spot = record { row = 0; at = 0 }
+-- all of so many point numbers are left
+unfoldable pub in_numbers : ℕ → Parts → Left → Outcome
+in_numbers k got l = indices got.number k l >>= λ ps. blocks ps.1 >>= in_type_word (with_filled (begin_from ps.0 got.sizes) got)
 
 unfoldable pub in_number_type : ℕ → Parts → Left → Outcome
-in_number_type b got l = numeric kinds.Keyword l >>= in_numbers b first_spot got
+in_number_type b got l = numeric kinds.Keyword l >>= in_numbers b got
 
 unfoldable pub in_connectivity : ℕ → Parts → Left → Outcome
 in_connectivity b got l = expect (codes "connectivity") kinds.Keyword l >>= in_number_type b got
 
 -- so many offsets are left
 unfoldable pub in_offsets : ℕ → Bool → ℕ → ℕ → Parts → Left → Outcome
-in_offsets k first before b got l = offsets k first before b l >>= λ os. blocks os.1 >>= in_connectivity b (with_rows (offset_sizes first before os.0) got)
+in_offsets k first before b got l = offsets k first before b l >>= λ os. blocks os.1 >>= in_connectivity b (with_sizes (offset_sizes first before os.0) got)
 
 unfoldable pub in_offset_type : ℕ → ℕ → Parts → Left → Outcome
 in_offset_type a b got l = numeric kinds.Keyword l >>= in_offsets a true 0 b got
@@ -123,9 +125,9 @@ in_offset_count got l = count 4000001 l >>= λ a. in_number_count a.0 got a.1
 unfoldable pub in_heads : ℕ → ℕ → ℕ → Parts → Left → Outcome
 in_heads m room place got l = counted_rows got.number m room place l >>= λ rs. blocks rs.1 >>= in_type_word (with_rows (map kept rs.0) got)
 
--- so many point numbers of the last cell are left
-unfoldable pub in_row : ℕ → ℕ → ℕ → ℕ → Parts → Left → Outcome
-in_row k m room place got l = indices got.number k l >>= λ ps. in_heads m room place (with_last k ps.0 got) ps.1
+-- so many point numbers of this cell are left
+unfoldable pub in_row : CellRow → ℕ → ℕ → ℕ → ℕ → Parts → Left → Outcome
+in_row row k m room place got l = indices got.number k l >>= λ ps. in_heads m room place (with_last k ps.0 row got) ps.1
 
 abbrev pub cell_size_taken : ℕ → Parts → Token × Left → Outcome
 cell_size_taken m got t = count_taken most_count t >>= λ s. in_heads m s.0 t.0.place got s.1
@@ -218,7 +220,7 @@ goes_on (stage.PointZ more x y) got l = in_z more x y got l
 goes_on stage.CellCount got l = in_cell_count got l
 goes_on (stage.CellSize m) got l = in_cell_size m got l
 goes_on (stage.CellHead more room place) got l = in_heads (suc more) room place got l
-goes_on (stage.CellPoint more cells room place) got l = in_row (suc more) cells room place got l
+goes_on (stage.CellPoint row more cells room place) got l = in_row row (suc more) cells room place got l
 goes_on stage.OffsetCount got l = in_offset_count got l
 goes_on (stage.NumberCount a) got l = in_number_count a got l
 goes_on stage.MaybeOffsets got l = in_maybe_offsets got l
@@ -226,7 +228,7 @@ goes_on (stage.OffsetWord a b) got l = in_offset_word a b got l
 goes_on (stage.OffsetType a b) got l = in_offset_type a b got l
 goes_on (stage.Offset more first before b) got l = in_offsets (suc more) first before b got l
 goes_on (stage.NumberType b) got l = in_number_type b got l
-goes_on (stage.Number more spot) got l = in_numbers (suc more) spot got l
+goes_on (stage.Number more filling) got l = in_filling (suc more) filling got l
 goes_on stage.TypeCount got l = in_type_count got l
 goes_on (stage.CellType more) got l = in_types (suc more) got l
 goes_on stage.Passed got l = Ok (mesh_of got.points got.cells)
@@ -261,29 +263,27 @@ taking_maybe got t = if word_is t.0.text (codes "offsets") then in_offset_type 0
 
 -- a count of points begins a row
 abbrev pub taking_head : ℕ → ℕ → ℕ → Parts → Token × Left → Outcome
-taking_head m room place got t = head_taken room t >>= λ c. in_row c.0 m (room - (1 + c.0)) place (with_rows (empty_row c.0 ∷ []) got) c.1
+taking_head m room place got t = head_taken room t >>= λ c. in_row (empty_row c.0) c.0 m (room - (1 + c.0)) place got c.1
 
-abbrev pub with_put_last : ℕ → ℕ → Parts → Parts
-with_put_last more p got = with_put (length got.rows - 1) ((row_at got.rows (length got.rows - 1)).count - more - 1) p got
+-- the row gets one number, and so many come after it
+abbrev pub with_point : CellRow → ℕ → ℕ → CellRow
+with_point row more p = with_corner row (row.count - more - 1) p
 
-abbrev pub taking_cell_point : ℕ → ℕ → ℕ → ℕ → Parts → Token × Left → Outcome
-taking_cell_point more m room place got t = indexed got.number t >>= λ p. in_row more m room place (with_put_last more p.0 got) p.1
+abbrev pub taking_cell_point : CellRow → ℕ → ℕ → ℕ → ℕ → Parts → Token × Left → Outcome
+taking_cell_point row more m room place got t = indexed got.number t >>= λ p. in_row (with_point row more p.0) more m room place got p.1
 
 abbrev pub taking_offset : ℕ → Bool → ℕ → ℕ → Parts → Token × Left → Outcome
 taking_offset more first before b got t =
-    offset_taken first (more == 0) before b t >>= λ o. in_offsets more false o.0 b (if first then got else with_rows (empty_row (o.0 - before) ∷ []) got) o.1
+    offset_taken first (more == 0) before b t >>= λ o. in_offsets more false o.0 b (if first then got else with_sizes ((o.0 - before) ∷ []) got) o.1
 
-abbrev pub taking_number : ℕ → Spot → Parts → Token × Left → Outcome
-taking_number more spot got t =
-    let s = next_spot got.rows spot in
-    indexed got.number t >>= λ p. in_numbers more (behind_spot s) (with_put s.row s.at p.0 got) p.1
+abbrev pub taking_number : ℕ → Filling → Parts → Token × Left → Outcome
+taking_number more filling got t = indexed got.number t >>= λ p. in_filling more (filling_after filling p.0 got.sizes) (got_after filling got) p.1
 
-abbrev pub with_type : ℕ → Parts → ℕ → Parts
-with_type more got type =
-    if type == 10 then with_cells (Some (corners_of (row_at got.rows (length got.rows - more - 1)).corners) ∷ []) got else got
+abbrev pub with_type : ℕ → Parts → Parts
+with_type type got = if type == 10 then with_first_kept got else without_first got
 
 abbrev pub taking_type : ℕ → Parts → Token × Left → Outcome
-taking_type more got t = typed_kept (row_at got.rows (length got.rows - more - 1)) t >>= λ type. in_types more (with_type more got type.0) type.1
+taking_type more got t = typed_kept (first_row got.rows) t >>= λ type. in_types more (with_type type.0 got) type.1
 
 -- what comes of the rest of the text, where this token is taken
 unfoldable pub taking : Stage → Parts → Token × Left → Outcome
@@ -304,15 +304,15 @@ taking (stage.PointZ more x y) got t = coordinate_taken t >>= λ z. in_places mo
 taking stage.CellCount got t = count_taken 4000000 t >>= λ m. in_cell_size m.0 got m.1
 taking (stage.CellSize m) got t = cell_size_taken m got t
 taking (stage.CellHead more room place) got t = taking_head more room place got t
-taking (stage.CellPoint more cells room place) got t = taking_cell_point more cells room place got t
+taking (stage.CellPoint row more cells room place) got t = taking_cell_point row more cells room place got t
 taking stage.OffsetCount got t = count_taken 4000001 t >>= λ a. in_number_count a.0 got a.1
 taking (stage.NumberCount a) got t = number_count_taken a got t
 taking stage.MaybeOffsets got t = taking_maybe got t
 taking (stage.OffsetWord a b) got t = expected (codes "offsets") kinds.Keyword t >>= in_offset_type a b got
 taking (stage.OffsetType a b) got t = numeric_taken kinds.Keyword t >>= in_offsets a true 0 b got
 taking (stage.Offset more first before b) got t = taking_offset more first before b got t
-taking (stage.NumberType b) got t = numeric_taken kinds.Keyword t >>= in_numbers b first_spot got
-taking (stage.Number more spot) got t = taking_number more spot got t
+taking (stage.NumberType b) got t = numeric_taken kinds.Keyword t >>= in_numbers b got
+taking (stage.Number more filling) got t = taking_number more filling got t
 taking stage.TypeCount got t = count_again (length got.rows) t >>= in_types (length got.rows) got
 taking (stage.CellType more) got t = taking_type more got t
 taking stage.Passed got t = Ok (mesh_of got.points got.cells)

@@ -1,7 +1,7 @@
 -- The text that is written of a mesh, line by line, and the mesh that it stands for.
-use Rattle.std.specs.Prelude.{ℕ, ◌*◌, List, [], ◌∷◌, ◌++◌, length, map, Some, codes, flat_map, decimal}
+use Rattle.std.specs.Prelude.{ℕ, ◌*◌, List, [], ◌∷◌, ◌++◌, length, map, Option, Some, codes, flat_map, decimal}
 use Rattle.std.specs.Fmt.{signed_decimal}
-use Rattle.std.specs.List.{join_with_byte}
+use Rattle.std.specs.List.{join_with_byte, repeat}
 use Rattle.mesh_base.specs.Mesh.{MeshView, Corners, live}
 use Rattle.mesh_base.specs.Place.{Place}
 
@@ -45,6 +45,24 @@ mesh_lines mesh = first_lines ++ (point_lines mesh.points ++ (cell_lines (live m
 -- the text that is written of a mesh
 unfoldable pub mesh_spelling : MeshView → List ℕ
 mesh_spelling mesh = flat_map line (mesh_lines mesh)
+
+-- ---- the same text in parts, of which the cells may come chunk by chunk
+
+-- what stands in front of the cells
+abbrev pub points_spelling : List Place → List ℕ
+points_spelling points = flat_map line (first_lines ++ point_lines points)
+
+-- the line in front of so many live cells
+abbrev pub count_spelling : ℕ → List ℕ
+count_spelling count = line (codes "CELLS" ∷ decimal count ∷ decimal (5 * count) ∷ [])
+
+-- these cells, of which the absent ones have no line
+abbrev pub cells_spelling : List (Option Corners) → List ℕ
+cells_spelling cells = flat_map line (map cell_line (live cells))
+
+-- the types of so many live cells
+abbrev pub types_spelling : ℕ → List ℕ
+types_spelling count = line (codes "CELL_TYPES" ∷ decimal count ∷ []) ++ repeat count (line (codes "10" ∷ []))
 
 -- the same mesh, but only with its live cells: these are numbered anew, in their order
 abbrev pub without_absent : MeshView → MeshView

@@ -5,7 +5,7 @@ ghost use Rattle.vtk_legacy.specs.Kept.{Parts};
 ghost use Rattle.vtk_legacy.specs.Machine.{Moves, taking, in_heads, in_row};
 
 use crate::fault::{MeshFault, MeshKind};
-use crate::gathered::Gathered;
+use crate::gathered::{CellRow, Gathered};
 use crate::stage::{Section, Stage};
 use crate::values::{COUNT_MAX, count_at, fault, index_at};
 
@@ -26,16 +26,25 @@ fn cells_left(cells: u32, room: u64, place: u64) -> Result<Stage, MeshFault>
     })
 }
 
-/// Where so many point numbers of a cell are left.
-#[tactic(auto, unfolding(crate::specs::Machine::goes_on, crate::specs::Machine::in_row, crate::specs::MeshText::indices, crate::specs::Kept::put_all))]
-fn row_left(count: u32, cells: u32, room: u64, place: u64) -> Result<Stage, MeshFault>
-    ensures { (got : Parts) → Moves (in_row count cells room place got) result got }
+/// Where so many point numbers of this cell are left.
+#[tactic(auto, unfolding(crate::specs::Machine::goes_on, crate::specs::Machine::in_row, crate::specs::MeshText::indices, crate::specs::Kept::fill_last))]
+fn row_left(
+    row: CellRow,
+    count: u32,
+    cells: u32,
+    room: u64,
+    place: u64,
+    got: &mut Gathered,
+) -> Result<Stage, MeshFault>
+    ensures { Moves (in_row row count cells room place got.old) result got.new }
 {
     if count == 0 {
+        got.push_row(row)?;
         return cells_left(cells, room, place);
     }
     let more = count - 1;
     Ok(Stage::CellPoint {
+        row,
         more,
         cells,
         room,
@@ -68,13 +77,15 @@ pub fn head_step(
     if room < 1 + count {
         return fault(MeshKind::Size, place);
     }
-    got.push_row(count as u32)?;
-    row_left(count as u32, more, room - (1 + count), size_place)
+    let left = room - (1 + count);
+    let count = count as u32;
+    row_left(CellRow::empty(count), count, more, left, size_place, got)
 }
 
-/// A point number of the last cell.
+/// A point number of this cell.
 #[tactic(auto, unfolding(crate::specs::Machine::goes_on, crate::specs::Machine::taking))]
 pub fn cell_point_step(
+    mut row: CellRow,
     more: u32,
     cells: u32,
     room: u64,
@@ -83,11 +94,10 @@ pub fn cell_point_step(
     place: u64,
     text: &[u8],
 ) -> Result<Stage, MeshFault>
-    ensures { Moves (λ after. taking (Stage.CellPoint more cells room size_place) got.old (token_taken place text.now, after)) result got.new }
+    ensures { Moves (λ after. taking (Stage.CellPoint row more cells room size_place) got.old (token_taken place text.now, after)) result got.new }
 {
     let point = index_at(place, text, got.number())?;
-    let row = got.rows().saturating_sub(1);
-    let at = got.row(row).count.saturating_sub(more).saturating_sub(1);
-    got.put(row, at, point);
-    row_left(more, cells, room, size_place)
+    let at = row.count.saturating_sub(more).saturating_sub(1);
+    row.put(at, point);
+    row_left(row, more, cells, room, size_place, got)
 }

@@ -1,10 +1,7 @@
 //! What was read so far.
-ghost use Rattle.std.specs.Prelude.{◌≡◌, ◌≤◌, length};
-ghost use Rattle.std.specs.List.{prefix_len};
-ghost use Rattle.vtk_legacy.specs.Kept.{is_empty_row};
-
 use crate::fault::MeshFault;
-use mesh_base::{Cell, CellList, Point, PointList};
+use crate::table::CellTable;
+use mesh_base::{CellList, Point, PointList};
 use std::alloc::Global;
 use std::marker::Model;
 
@@ -17,17 +14,17 @@ pub enum CellForm {
     Offsets,
 }
 
-/// What is kept of a cell: how many points it has, and the first four.
+/// A cell that is read: how many points it has, and the first four.
 #[derive(Clone, Copy)]
 pub struct CellRow {
     pub count: u32,
     pub corners: [u32; 4],
 }
 
-/// A place in the rows.
+/// A row in work, of which so many point numbers came.
 #[derive(Clone, Copy)]
-pub struct Spot {
-    pub row: usize,
+pub struct Filling {
+    pub row: CellRow,
     pub at: u32,
 }
 
@@ -44,7 +41,7 @@ impl CellRow {
     }
 
     /// The point number goes to this place, where that is one of the first four.
-    fn put(&mut self, at: u32, point: u32)
+    pub fn put(&mut self, at: u32, point: u32)
         ensures { self.new ≡ with_corner self.old at point }
     {
         if at < 4 {
@@ -59,23 +56,28 @@ pub struct Gathered {
     form: CellForm,
     number: u32,
     points: Vec<Point>,
-    rows: Vec<CellRow>,
-    cells: Vec<Option<Cell>>,
+    /// How many points the cells have whose numbers come later. They are read from `begun` on.
+    sizes: Vec<u32>,
+    begun: usize,
+    table: CellTable,
 }
 
 impl Model for Gathered {
+    ghost use Rattle.std.specs.Prelude.{drop, ◌≤◌, length};
     ghost use Rattle.vtk_legacy.specs.Kept.{Parts};
 
     ghost Value = { Parts };
 
-    ghost view = { λ g. record { form = g.form; number = g.number; points = g.points.items; rows = g.rows.items; cells = g.cells.items } };
+    ghost view = { λ g. record { form = g.form; number = g.number; points = g.points.items; sizes = drop g.begun g.sizes.items; rows = g.table.waiting; cells = g.table.done } };
+
+    ghost invariant = { λ g. g.begun ≤ length g.sizes.items };
 }
 
 impl Gathered {
-    ghost use Rattle.std.specs.Prelude.{◌≡◌, ◌∷◌, ◌<◌, ◌-◌, ◌^◌, [], length, OnOk, IfErr, Some};
+    ghost use Rattle.std.specs.Prelude.{◌≡◌, ◌∷◌, [], length, map, OnOk, IfErr, IfOk, IsTrue, IsFalse, IsSome, None};
     ghost use Rattle.vtk_legacy.specs.declared.gathered.CellForm.TheVariants.{Counts};
     ghost use Rattle.vtk_legacy.specs.declared.fault.MeshFault.TheVariants.{NoMemory};
-    ghost use Rattle.vtk_legacy.specs.Kept.{nothing_in, with_form, with_number, with_points, with_rows, with_cells, with_put, empty_row, row_at, next_spot};
+    ghost use Rattle.vtk_legacy.specs.Kept.{nothing_in, with_form, with_number, with_points, with_sizes, with_rows, with_next, with_filled, with_first_kept, without_first, ended, bare, empty_row, next_size, first_row, filling_after, got_after};
 
     /// Nothing was read yet.
     pub fn new(alloc: Global) -> Gathered
@@ -85,8 +87,9 @@ impl Gathered {
             form: CellForm::Counts,
             number: 0,
             points: Vec::new(alloc),
-            rows: Vec::new(alloc),
-            cells: Vec::new(alloc),
+            sizes: Vec::new(alloc),
+            begun: 0,
+            table: CellTable::new(alloc),
         }
     }
 
@@ -109,22 +112,11 @@ impl Gathered {
         self.number = number;
     }
 
-    /// How many cells came.
+    /// How many cells wait for their types.
     pub fn rows(&self) -> usize
         ensures { result ≡ length self.now.rows }
     {
-        self.rows.len()
-    }
-
-    /// The row of this number, or one that is empty.
-    pub fn row(&self, i: usize) -> CellRow
-        ensures { result ≡ row_at self.now.rows i }
-    {
-        if i < self.rows.len() {
-            self.rows[i]
-        } else {
-            CellRow::empty(0)
-        }
+        self.table.waiting()
     }
 
     pub fn set_form(&mut self, form: CellForm)
@@ -141,57 +133,89 @@ impl Gathered {
         Ok(())
     }
 
-    pub fn push_row(&mut self, count: u32) -> Result<(), MeshFault>
-        ensures ok { OnOk result (self.new ≡ with_rows (empty_row count ∷ []) self.old) }
+    /// One more cell has so many points, whose numbers come later.
+    pub fn push_size(&mut self, size: u32) -> Result<(), MeshFault>
+        ensures ok { OnOk result (self.new ≡ with_sizes (size ∷ []) self.old) }
         ensures err { IfErr result (λ e. e ≡ NoMemory) }
     {
-        self.rows.push(CellRow::empty(count))?;
+        self.sizes.push(size)?;
         Ok(())
     }
 
-    /// Adds a row of these four points.
-    pub fn push_four(&mut self, corners: [u32; 4]) -> Result<(), MeshFault>
-        ensures ok { OnOk result (self.new ≡ with_rows (record { count = 4; corners = corners } ∷ []) self.old) }
+    /// One more cell has all its numbers.
+    pub fn push_row(&mut self, row: CellRow) -> Result<(), MeshFault>
+        ensures ok { OnOk result (self.new ≡ with_rows (ended row ∷ []) self.old) }
         ensures err { IfErr result (λ e. e ≡ NoMemory) }
     {
-        self.rows.push(CellRow { count: 4, corners })?;
+        self.table.push(row)
+    }
+
+    /// Begins the next row that has points. Those before it have all their numbers.
+    pub fn next_row(&mut self) -> Result<CellRow, MeshFault>
+        ensures row { IfOk result (λ row. row ≡ empty_row (next_size self.old.sizes)) }
+        ensures ok { OnOk result (self.new ≡ with_next self.old) }
+        ensures err { IfErr result (λ e. e ≡ NoMemory) }
+    {
+        while self.begun < self.sizes.len() {
+            let size = self.sizes[self.begun];
+            if size > 0 {
+                self.begun += 1;
+                return Ok(CellRow::empty(size));
+            }
+            self.table.push(CellRow::empty(0))?;
+            self.begun += 1;
+        }
+        Ok(CellRow::empty(0))
+    }
+
+    /// The rows that haven't begun get no numbers.
+    pub fn push_rest(&mut self) -> Result<(), MeshFault>
+        ensures ok { OnOk result (self.new ≡ with_filled (map bare self.old.sizes) self.old) }
+        ensures err { IfErr result (λ e. e ≡ NoMemory) }
+    {
+        while self.begun < self.sizes.len() {
+            self.table.push(CellRow::empty(self.sizes[self.begun]))?;
+            self.begun += 1;
+        }
         Ok(())
     }
 
-    pub fn push_cell(&mut self, cell: Cell) -> Result<(), MeshFault>
-        ensures ok { OnOk result (self.new ≡ with_cells (Some cell ∷ []) self.old) }
+    /// The point number goes into the row in work, or where that is full into the next one.
+    pub fn fill(&mut self, filling: Filling, point: u32) -> Result<Filling, MeshFault>
+        ensures filling { IfOk result (λ after. after ≡ filling_after filling point self.old.sizes) }
+        ensures ok { OnOk result (self.new ≡ got_after filling self.old) }
         ensures err { IfErr result (λ e. e ≡ NoMemory) }
     {
-        self.cells.push(Some(cell))?;
-        Ok(())
+        let Filling { mut row, mut at } = filling;
+        if at >= row.count {
+            self.push_row(row)?;
+            row = self.next_row()?;
+            at = 0;
+        }
+        row.put(at, point);
+        Ok(Filling { row, at: at + 1 })
     }
 
-    /// The point number goes into this row, at this place.
-    pub fn put(&mut self, row: usize, at: u32, point: u32)
-        ensures { self.new ≡ with_put row at point self.old }
+    /// How many points the first cell has that waits for its type.
+    pub fn first_size(&self) -> u32
+        ensures { result ≡ (first_row self.now.rows).size }
     {
-        if row < self.rows.len() {
-            self.rows[row].put(at, point);
-        }
+        self.table.first_size()
     }
 
-    /// Where the next point number goes, behind this spot.
-    pub fn next_spot(&self, spot: Spot) -> Spot
-        ensures spot { result ≡ next_spot self.now.rows spot }
-        ensures room { result.at < 2 ^ 32 - 1 }
+    /// The first cell that waits is finished, if it has four different points. Says whether it has.
+    pub fn keep_first(&mut self) -> bool
+        ensures yes { IsTrue result → (self.new ≡ with_first_kept self.old) × ((first_row self.old.rows).size ≡ 4) × IsSome (first_row self.old.rows).cell }
+        ensures no { IsFalse result → (self.new ≡ self.old) × ((first_row self.old.rows).cell ≡ None) }
     {
-        let len = self.rows.len();
-        if spot.row >= len {
-            return Spot {
-                row: spot.row,
-                at: 0,
-            };
-        }
-        if spot.at < self.rows[spot.row].count {
-            return spot;
-        }
-        let row = spot.row + 1 + empty_rows(&self.rows[spot.row + 1..]);
-        Spot { row, at: 0 }
+        self.table.keep_first()
+    }
+
+    /// The first cell that waits is left out.
+    pub fn skip_first(&mut self)
+        ensures { self.new ≡ without_first self.old }
+    {
+        self.table.skip_first();
     }
 
     /// The points and the cells.
@@ -203,22 +227,10 @@ impl Gathered {
             form: _,
             number: _,
             points,
-            rows: _,
-            cells,
+            sizes: _,
+            begun: _,
+            table,
         } = self;
-        (PointList::of(points), CellList::of(cells))
+        (PointList::of(points), table.into_cells())
     }
-}
-
-/// How many rows without points stand at the front.
-fn empty_rows(rows: &[CellRow]) -> usize
-    ensures within { result ≤ length rows.now }
-    ensures exact { result ≡ prefix_len is_empty_row rows.now }
-{
-    for (i, row) in rows.iter().enumerate() {
-        if row.count != 0 {
-            return i;
-        }
-    }
-    rows.len()
 }

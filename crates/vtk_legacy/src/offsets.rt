@@ -4,10 +4,10 @@ ghost use Rattle.oct_text.specs.Rest.{Left};
 ghost use Rattle.oct_text.specs.Taken.{token_taken};
 ghost use Rattle.vtk_legacy.specs.MeshText.{offset_fits};
 ghost use Rattle.vtk_legacy.specs.Kept.{Parts};
-ghost use Rattle.vtk_legacy.specs.Machine.{Moves, goes_on, taking, in_offsets, in_numbers};
+ghost use Rattle.vtk_legacy.specs.Machine.{Moves, goes_on, taking, in_offsets, in_numbers, in_filling};
 
 use crate::fault::{MeshFault, MeshKind};
-use crate::gathered::{Gathered, Spot};
+use crate::gathered::{Filling, Gathered};
 use crate::stage::{Section, Stage};
 use crate::values::{COUNT_MAX, count_at, fault, index_at};
 
@@ -74,44 +74,56 @@ pub fn offset_step(
     if first {
         return Ok(offsets_left(more, false, offset, numbers));
     }
-    got.push_row(offset.saturating_sub(before))?;
+    got.push_size(offset.saturating_sub(before))?;
     Ok(offsets_left(more, false, offset, numbers))
 }
 
-/// Where so many point numbers are left.
-#[tactic(auto, unfolding(crate::specs::Machine::goes_on), using(crate::proofs::StepLemmas::in_numbers_none))]
-pub fn numbers_left(count: u32, spot: Spot) -> Stage
-    ensures { (got : Parts) (l : Left) → goes_on result got l ≡ in_numbers count spot got l }
+/// Where all of so many point numbers are left.
+#[tactic(auto, unfolding(crate::specs::Machine::goes_on), using(crate::proofs::StepLemmas::in_numbers_none, crate::proofs::StepLemmas::in_numbers_some))]
+pub fn numbers_left(count: u32, got: &mut Gathered) -> Result<Stage, MeshFault>
+    ensures { Moves (in_numbers count got.old) result got.new }
 {
     if count == 0 {
-        Stage::Between {
+        got.push_rest()?;
+        return Ok(Stage::Between {
             section: Section::Types,
-        }
-    } else {
-        Stage::Number {
-            more: count - 1,
-            spot,
-        }
+        });
     }
+    let row = got.next_row()?;
+    Ok(Stage::Number {
+        more: count - 1,
+        filling: Filling { row, at: 0 },
+    })
 }
 
-/// A point number, which goes behind this spot.
+/// Where so many point numbers are left, and this row is in work.
+#[tactic(auto, unfolding(crate::specs::Machine::goes_on), using(crate::proofs::StepLemmas::in_filling_none))]
+fn filling_left(count: u32, filling: Filling, got: &mut Gathered) -> Result<Stage, MeshFault>
+    ensures { Moves (in_filling count filling got.old) result got.new }
+{
+    if count == 0 {
+        got.push_row(filling.row)?;
+        got.push_rest()?;
+        return Ok(Stage::Between {
+            section: Section::Types,
+        });
+    }
+    let more = count - 1;
+    Ok(Stage::Number { more, filling })
+}
+
+/// A point number, which goes into this row or behind it.
 #[tactic(auto, unfolding(crate::specs::Machine::goes_on, crate::specs::Machine::taking))]
 pub fn number_step(
     more: u32,
-    spot: Spot,
+    filling: Filling,
     got: &mut Gathered,
     place: u64,
     text: &[u8],
 ) -> Result<Stage, MeshFault>
-    ensures { Moves (λ after. taking (Stage.Number more spot) got.old (token_taken place text.now, after)) result got.new }
+    ensures { Moves (λ after. taking (Stage.Number more filling) got.old (token_taken place text.now, after)) result got.new }
 {
     let point = index_at(place, text, got.number())?;
-    let here = got.next_spot(spot);
-    got.put(here.row, here.at, point);
-    let behind = Spot {
-        row: here.row,
-        at: here.at + 1,
-    };
-    Ok(numbers_left(more, behind))
+    let after = got.fill(filling, point)?;
+    filling_left(more, after, got)
 }

@@ -3,22 +3,19 @@
 //! Each call looks ahead and takes a whole part (a point, a cell of four points, the type of a tetrahedron, an offset or a point
 //! number) where the steps by tokens would take it with the same outcome. A part in another spelling, one that is faulty or not
 //! there as a whole, and the last part of its section are left to those steps: so they alone tell faults and ends of sections.
-ghost use Rattle.std.specs.Prelude.{◌≡◌, ℕ, ◌-◌, ◌<◌, length, IfSome, None, false};
-ghost use Rattle.mesh_base.specs.Mesh.{corners_of};
+ghost use Rattle.std.specs.Prelude.{◌≡◌, ℕ, ◌-◌, ◌<◌, length, IfSome, IsTrue, IsFalse, false};
 ghost use Rattle.vtk_legacy.specs.Kept.{AreBelow};
 ghost use Rattle.vtk_legacy.specs.Machine.{Steps, StepsTo, Passes, PassesTo};
 
 use crate::fault::MeshFault;
-use crate::gathered::{Gathered, Spot};
+use crate::gathered::{CellRow, Filling, Gathered};
 use crate::stage::Stage;
-use mesh_base::{Cell, Point};
+use crate::table::CORNERS;
+use mesh_base::Point;
 use oct_text::Tokens;
 
 /// The type of a tetrahedron.
 const TETRAHEDRON: u64 = 10;
-
-/// How many points a tetrahedron has.
-const CORNERS: u32 = 4;
 
 // The corners, where each is below the number of points.
 fn corners_below(values: [u64; 4], number: u32) -> Option<[u32; 4]>
@@ -82,7 +79,11 @@ fn take_row(
     let Some(corners) = corners_below(ahead.values, got.number()) else {
         return Ok(false);
     };
-    got.push_four(corners)?;
+    let row = CellRow {
+        count: CORNERS,
+        corners,
+    };
+    got.push_row(row)?;
     tokens.pass(ahead.len);
     Ok(true)
 }
@@ -119,37 +120,36 @@ pub fn take_rows(
 }
 
 // Takes the type of a tetrahedron, where that is ahead and fits, and says whether it was.
-fn take_type(tokens: &mut Tokens, got: &mut Gathered, more: u32) -> Result<bool, MeshFault>
+fn take_type(tokens: &mut Tokens, got: &mut Gathered, more: u32) -> bool
     requires { 0 < more }
-    ensures { Steps (Stage.CellType more) got.old tokens.old result (Stage.CellType (more - 1)) got.new tokens.new }
+    ensures yes { IsTrue result → Passes (Stage.CellType more) got.old tokens.old (Stage.CellType (more - 1)) got.new tokens.new }
+    ensures no { IsFalse result → (got.new ≡ got.old) × (tokens.new ≡ tokens.old) }
 {
     let Some(ahead) = tokens.count_ahead() else {
-        return Ok(false);
+        return false;
     };
-    let row = got.row(got.rows().saturating_sub(more as usize).saturating_sub(1));
-    if ahead.value != TETRAHEDRON || row.count != CORNERS {
-        return Ok(false);
+    if ahead.value != TETRAHEDRON {
+        return false;
     }
-    let Some(cell) = Cell::new(row.corners) else {
-        return Ok(false);
-    };
-    got.push_cell(cell)?;
+    if !got.keep_first() {
+        return false;
+    }
     tokens.pass(ahead.len);
-    Ok(true)
+    true
 }
 
 /// Takes types as long as that of a tetrahedron is ahead, but for the last. Where it isn't, this costs one look ahead.
-pub fn take_types(tokens: &mut Tokens, got: &mut Gathered, more: u32) -> Result<Stage, MeshFault>
-    ensures { PassesTo (Stage.CellType more) got.old tokens.old result got.new tokens.new }
+pub fn take_types(tokens: &mut Tokens, got: &mut Gathered, more: u32) -> Stage
+    ensures { Passes (Stage.CellType more) got.old tokens.old result got.new tokens.new }
 {
     let mut left = more;
     while left > 0 {
-        if !take_type(tokens, got, left)? {
-            return Ok(Stage::CellType { more: left });
+        if !take_type(tokens, got, left) {
+            return Stage::CellType { more: left };
         }
         left -= 1;
     }
-    Ok(Stage::CellType { more: left })
+    Stage::CellType { more: left }
 }
 
 // Takes an offset behind the first, where one is ahead that fits, and gives it.
@@ -170,7 +170,7 @@ fn take_offset(
         return Ok(None);
     }
     let offset = ahead.value as u32;
-    got.push_row(offset - before)?;
+    got.push_size(offset - before)?;
     tokens.pass(ahead.len);
     Ok(Some(offset))
 }
@@ -209,47 +209,52 @@ pub fn take_offsets(
     })
 }
 
-// Takes a point number, where one is ahead that fits, and gives the spot behind it.
-fn take_number(tokens: &mut Tokens, got: &mut Gathered, more: u32, spot: Spot) -> Option<Spot>
+// Takes a point number, where one is ahead that fits, and gives the row that it went into.
+fn take_number(
+    tokens: &mut Tokens,
+    got: &mut Gathered,
+    more: u32,
+    filling: Filling,
+) -> Result<Option<Filling>, MeshFault>
     requires { 0 < more }
-    ensures none { result ≡ None → (got.new ≡ got.old) × (tokens.new ≡ tokens.old) }
-    ensures some { IfSome result (λ s. Passes (Stage.Number more spot) got.old tokens.old (Stage.Number (more - 1) s) got.new tokens.new) }
+    ensures { StepsTo (Stage.Number more filling) got.old tokens.old (λ after. Stage.Number (more - 1) after) result got.new tokens.new }
 {
     let Some(ahead) = tokens.count_ahead() else {
-        return None;
+        return Ok(None);
     };
     if ahead.value >= u64::from(got.number()) {
-        return None;
+        return Ok(None);
     }
-    let here = got.next_spot(spot);
-    got.put(here.row, here.at, ahead.value as u32);
+    let after = got.fill(filling, ahead.value as u32)?;
     tokens.pass(ahead.len);
-    Some(Spot {
-        row: here.row,
-        at: here.at + 1,
-    })
+    Ok(Some(after))
 }
 
 /// Takes point numbers as long as one is ahead, but for the last. Where none is, this costs one look ahead.
-pub fn take_numbers(tokens: &mut Tokens, got: &mut Gathered, more: u32, spot: Spot) -> Stage
-    ensures { Passes (Stage.Number more spot) got.old tokens.old result got.new tokens.new }
+pub fn take_numbers(
+    tokens: &mut Tokens,
+    got: &mut Gathered,
+    more: u32,
+    filling: Filling,
+) -> Result<Stage, MeshFault>
+    ensures { PassesTo (Stage.Number more filling) got.old tokens.old result got.new tokens.new }
 {
     let mut left = more;
-    let mut here = spot;
+    let mut here = filling;
     while left > 0 {
-        match take_number(tokens, got, left, here) {
-            Some(behind) => here = behind,
+        match take_number(tokens, got, left, here)? {
+            Some(after) => here = after,
             None => {
-                return Stage::Number {
+                return Ok(Stage::Number {
                     more: left,
-                    spot: here,
-                };
+                    filling: here,
+                });
             }
         }
         left -= 1;
     }
-    Stage::Number {
+    Ok(Stage::Number {
         more: left,
-        spot: here,
-    }
+        filling: here,
+    })
 }

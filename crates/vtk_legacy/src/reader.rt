@@ -46,7 +46,7 @@ fn read_on(tokens: &mut Tokens, stage: &mut Stage, got: &mut Gathered) -> Result
             Ok(())
         }
         Stage::CellType { more } => {
-            *stage = take_types(tokens, got, more)?;
+            *stage = take_types(tokens, got, more);
             Ok(())
         }
         Stage::Offset {
@@ -58,8 +58,8 @@ fn read_on(tokens: &mut Tokens, stage: &mut Stage, got: &mut Gathered) -> Result
             *stage = take_offsets(tokens, got, more, before, numbers)?;
             Ok(())
         }
-        Stage::Number { more, spot } => {
-            *stage = take_numbers(tokens, got, more, spot);
+        Stage::Number { more, filling } => {
+            *stage = take_numbers(tokens, got, more, filling)?;
             Ok(())
         }
         _ => Ok(()),
@@ -134,7 +134,8 @@ fn close(mut tokens: Tokens, mut stage: Stage, mut got: Gathered) -> Result<Gath
 
 /// A reader of a mesh text that comes in pieces, cut anywhere.
 ///
-/// It keeps the mesh as far as it was read, 20 bytes for each cell of the text, and of the text itself the token or line in work:
+/// It keeps the mesh as far as it was read: 20 bytes for each cell of the text, in which the cell is finished when its type comes, 4
+/// more for one that isn't of four different points, and 4 for each offset. Of the text itself it keeps the token or line in work:
 /// nothing grows by a count that the text states before its numbers have come. Behind the first attributes nothing is kept.
 #[derive(Drop)]
 pub struct MeshReader {

@@ -1,7 +1,7 @@
 //! Where a reader stands.
 
 use crate::coordinate::Coordinate;
-use crate::gathered::Spot;
+use crate::gathered::{CellRow, Filling};
 
 /// Where a reader stands within a FIELD block. The numbers of arrays count those after the one that is being read.
 #[derive(Clone, Copy)]
@@ -79,8 +79,9 @@ pub enum Stage {
         room: u64,
         place: u64,
     },
-    /// A point number of a cell, behind which so many cells come.
+    /// A point number of this cell, behind which so many cells come.
     CellPoint {
+        row: CellRow,
         more: u32,
         cells: u32,
         room: u64,
@@ -109,10 +110,10 @@ pub enum Stage {
     NumberType {
         numbers: u32,
     },
-    /// A point number that goes behind this spot.
+    /// A point number that goes into this row, or behind it.
     Number {
         more: u32,
-        spot: Spot,
+        filling: Filling,
     },
     TypeCount,
     CellType {

@@ -8,7 +8,7 @@ ghost use Rattle.oct_text.specs.Rest.{Left};
 use crate::blocks::block_step;
 use crate::cells::{cell_point_step, head_step, size_step};
 use crate::fault::{MeshFault, MeshKind};
-use crate::gathered::{CellForm, Gathered, Spot};
+use crate::gathered::{CellForm, Gathered};
 use crate::offsets::{number_count_step, number_step, numbers_left, offset_step, offsets_left};
 use crate::points::{point_count_step, points_left, z_step};
 use crate::stage::{Block, Section, Stage};
@@ -159,11 +159,12 @@ pub fn step(stage: Stage, got: &mut Gathered, place: u64, text: &[u8]) -> Result
             place: size_place,
         } => head_step(more, room, size_place, got, place, text),
         Stage::CellPoint {
+            row,
             more,
             cells,
             room,
             place: size_place,
-        } => cell_point_step(more, cells, room, size_place, got, place, text),
+        } => cell_point_step(row, more, cells, room, size_place, got, place, text),
         Stage::OffsetCount => {
             let offsets = count_at(place, text, OFFSETS_MAX)? as u32;
             Ok(Stage::NumberCount { offsets })
@@ -186,9 +187,9 @@ pub fn step(stage: Stage, got: &mut Gathered, place: u64, text: &[u8]) -> Result
         } => offset_step(more, first, before, numbers, got, place, text),
         Stage::NumberType { numbers } => {
             numeric_at(place, text, MeshKind::Keyword)?;
-            Ok(numbers_left(numbers, Spot { row: 0, at: 0 }))
+            numbers_left(numbers, got)
         }
-        Stage::Number { more, spot } => number_step(more, spot, got, place, text),
+        Stage::Number { more, filling } => number_step(more, filling, got, place, text),
         Stage::TypeCount => type_count_step(got, place, text),
         Stage::CellType { more } => type_step(more, got, place, text),
         Stage::Version

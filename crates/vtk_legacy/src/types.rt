@@ -13,7 +13,6 @@ use crate::fault::{MeshFault, MeshKind};
 use crate::gathered::Gathered;
 use crate::stage::{Section, Stage};
 use crate::values::{COUNT_MAX, count_at, fault};
-use mesh_base::Cell;
 use oct_text::{CountFault, count};
 
 /// Where so many types are left.
@@ -80,15 +79,12 @@ fn type_at(place: u64, text: &[u8], size: u32) -> Result<u64, MeshFault>
 pub fn type_step(more: u32, got: &mut Gathered, place: u64, text: &[u8]) -> Result<Stage, MeshFault>
     ensures { Moves (λ after. taking (Stage.CellType more) got.old (token_taken place text.now, after)) result got.new }
 {
-    let row = got.row(got.rows().saturating_sub(more as usize).saturating_sub(1));
-    if type_at(place, text, row.count)? != 10 {
+    if type_at(place, text, got.first_size())? != 10 {
+        got.skip_first();
         return Ok(types_left(more));
     }
-    match Cell::new(row.corners) {
-        Some(cell) => {
-            got.push_cell(cell)?;
-            Ok(types_left(more))
-        }
-        None => fault(MeshKind::SameVertex, place),
+    if !got.keep_first() {
+        return fault(MeshKind::SameVertex, place);
     }
+    Ok(types_left(more))
 }

@@ -1,9 +1,9 @@
 //! The text of a mesh, appended to a list of bytes.
-ghost use Rattle.std.specs.Prelude.{◌≡◌, ◌++◌, ◌∷◌, [], All, ◌<◌, ◌≤◌, ◌^◌, List, OnOk, OnErr, Ok, length, flat_map, map, take, vec_len};
-ghost use Rattle.mesh_base.specs.Mesh.{Corners, live as live_cells};
+ghost use Rattle.std.specs.Prelude.{◌≡◌, ◌++◌, ◌∷◌, [], All, ◌<◌, ◌≤◌, ◌^◌, OnOk, OnErr, Ok, length, flat_map, map, take, vec_len};
+ghost use Rattle.mesh_base.specs.Mesh.{live as live_cells};
 ghost use Rattle.mesh_base.specs.Place.{IsPlace};
 ghost use Rattle.vtk_legacy.specs.MeshText.{mesh_text};
-ghost use Rattle.vtk_legacy.specs.Written.{line, point_line, point_lines, cell_line, cell_lines, type_lines, mesh_spelling, without_absent};
+ghost use Rattle.vtk_legacy.specs.Written.{line, point_line, point_lines, cell_line, points_spelling, count_spelling, cells_spelling, types_spelling, mesh_spelling, without_absent};
 
 use itoa::Buffer;
 use mesh_base::{Cell, Mesh, NoMemory, Point};
@@ -40,11 +40,21 @@ fn put_mesh(out: &mut Vec<u8>, mesh: &Mesh) -> Result<(), NoMemory>
     ensures kept { take (vec_len out.old) out.new.items ≡ out.old.items }
     ensures read_again { OnOk result (mesh_text (mesh_spelling mesh.now) ≡ Ok (without_absent mesh.now)) }
 {
-    out.extend_from_slice(FIRST_LINES)?;
-    put_points(out, mesh.points())?;
+    put_front(out, mesh.points())?;
     let live = live_count(mesh.cells());
-    put_cells(out, mesh.cells(), live)?;
+    put_count(out, live)?;
+    put_cells(out, mesh.cells())?;
     put_types(out, live)
+}
+
+// The first lines and the points.
+pub fn put_front(out: &mut Vec<u8>, points: &[Point]) -> Result<(), NoMemory>
+    ensures ok { OnOk result (out.new.items ≡ out.old.items ++ points_spelling points.now) }
+    ensures kept { take (vec_len out.old) out.new.items ≡ out.old.items }
+    ensures in_range { OnOk result (All IsPlace points.now) }
+{
+    out.extend_from_slice(FIRST_LINES)?;
+    put_points(out, points)
 }
 
 // The points behind their number.
@@ -62,16 +72,22 @@ fn put_points(out: &mut Vec<u8>, points: &[Point]) -> Result<(), NoMemory>
     Ok(())
 }
 
-// The live cells behind their number, which is given.
-fn put_cells(out: &mut Vec<u8>, cells: &[Option<Cell>], live: usize) -> Result<(), NoMemory>
-    requires few { live < 2 ^ 32 }
-    requires live { live ≡ length (live_cells cells.now) }
-    ensures ok { OnOk result (out.new.items ≡ out.old.items ++ flat_map line (cell_lines (live_cells cells.now))) }
+// The number of the live cells, and how many numbers follow.
+pub fn put_count(out: &mut Vec<u8>, live: usize) -> Result<(), NoMemory>
+    requires { live < 2 ^ 32 }
+    ensures ok { OnOk result (out.new.items ≡ out.old.items ++ count_spelling live) }
     ensures kept { take (vec_len out.old) out.new.items ≡ out.old.items }
 {
     out.extend_from_slice(b"CELLS ")?;
     put_word(out, Buffer::new().format(live), b' ')?;
-    put_word(out, Buffer::new().format(5 * live), b'\n')?;
+    put_word(out, Buffer::new().format(5 * live), b'\n')
+}
+
+// The live ones of these cells.
+pub fn put_cells(out: &mut Vec<u8>, cells: &[Option<Cell>]) -> Result<(), NoMemory>
+    ensures ok { OnOk result (out.new.items ≡ out.old.items ++ cells_spelling cells.now) }
+    ensures kept { take (vec_len out.old) out.new.items ≡ out.old.items }
+{
     for cell in cells {
         put_live(out, cell)?;
     }
@@ -79,9 +95,8 @@ fn put_cells(out: &mut Vec<u8>, cells: &[Option<Cell>], live: usize) -> Result<(
 }
 
 // The types of so many tetrahedra.
-fn put_types(out: &mut Vec<u8>, live: usize) -> Result<(), NoMemory>
-    ensures ok { OnOk result ((cells : List Corners) → length cells ≡ live →
-        out.new.items ≡ out.old.items ++ flat_map line (type_lines cells)) }
+pub fn put_types(out: &mut Vec<u8>, live: usize) -> Result<(), NoMemory>
+    ensures ok { OnOk result (out.new.items ≡ out.old.items ++ types_spelling live) }
     ensures kept { take (vec_len out.old) out.new.items ≡ out.old.items }
 {
     out.extend_from_slice(b"CELL_TYPES ")?;
@@ -139,7 +154,7 @@ fn put_word(out: &mut Vec<u8>, word: &str, end: u8) -> Result<(), NoMemory>
 }
 
 // How many cells aren't absent.
-fn live_count(cells: &[Option<Cell>]) -> usize
+pub fn live_count(cells: &[Option<Cell>]) -> usize
     ensures count { result ≡ length (live_cells cells.now) }
     ensures most { result ≤ length cells.now }
 {

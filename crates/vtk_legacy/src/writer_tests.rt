@@ -1,6 +1,6 @@
 //! Texts as they are written, beside what the format's description asks for.
 
-use crate::write_mesh;
+use crate::{count_live, write_cells, write_count, write_mesh, write_points, write_types};
 use mesh_base::{Cell, CellList, Mesh, Point, PointList};
 use std::alloc::Global;
 use std::test::Fail;
@@ -24,6 +24,22 @@ fn mesh_of(
     }
     let mesh = Mesh::new(PointList::of(points), CellList::of(cells)).ok_or("mesh")?;
     Ok(mesh)
+}
+
+// The text of the mesh in parts, with its cells in two chunks.
+fn in_parts(mesh: &Mesh, out: &mut Vec<u8>) -> Result<(), Fail> {
+    let cells = mesh.cells();
+    let (front, back) = cells.split_at(cells.len() / 2);
+    let live = count_live(front).saturating_add(count_live(back));
+    if live > 9 {
+        return Err("more cells than these tests have".into());
+    }
+    write_points(out, mesh.points())?;
+    write_count(out, live)?;
+    write_cells(out, front)?;
+    write_cells(out, back)?;
+    write_types(out, live)?;
+    Ok(())
 }
 
 const NOTHING: &str = "# vtk DataFile Version 3.0\noctopus mesh\nASCII\nDATASET UNSTRUCTURED_GRID\n\
@@ -59,6 +75,9 @@ fn meshes_are_written(rt: HostRuntime) -> Result<(), Fail> {
         let (before, written) = out.as_slice().split_at(7);
         assert_eq!(rt; before, b"before ".as_slice());
         assert_eq!(rt; written, text.as_bytes());
+        let mut parts = b"before ".to_vec(rt.alloc())?;
+        in_parts(mesh, &mut parts)?;
+        assert_eq!(rt; parts.as_slice(), out.as_slice());
     }
     Ok(())
 }

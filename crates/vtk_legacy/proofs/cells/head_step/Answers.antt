@@ -8,4 +8,5 @@ pub returns : goal.returns
 unfolding taking
 returns c =
     let room = le-ltb c.args.room (1 + c.in_ok-count.count) c.if-room-count.false in
-    rw c.in_ok-push_row.ensures.ok (moves_by _ _ _ _ (λ after. rw (c.in_ok-count.ensures.agrees after, room) refl) (c.row_left.ensures _))
+    let left = rw c.empty.ensures at c.row_left.ensures in
+    moves_by _ _ _ _ (λ after. rw (c.in_ok-count.ensures.agrees after, room) refl) left

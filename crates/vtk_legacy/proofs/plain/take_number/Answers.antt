@@ -3,8 +3,8 @@ use Rattle.oct_text.specs.Rest.{behind}
 use Rattle.vtk_legacy.proofs.AheadLemmas.{number_passes}
 use Rattle.vtk_legacy.proofs.plain.take_number.Goals as goal
 
-pub returns-clause-some : goal.returns-clause-some
-returns-clause-some c =
+pub returns : goal.returns
+returns c =
     let ahead = c.in-Some.ahead in
-    rw (c.pass.ensures, c.put.ensures)
-    (number_passes c.args.more ahead.value c.args.spot c.next_spot-here.result c.args.got.now c.args.tokens.now (behind ahead.len c.args.tokens.now) c.requires c.next_spot-here.ensures.spot (omega (arith, c.number.ensures)) c.in-Some.ensures.exact)
+    rw (c.pass.ensures, c.in_ok-after.ensures.ok, c.in_ok-after.ensures.filling)
+    (number_passes c.args.more ahead.value c.args.filling c.args.got.now c.args.tokens.now (behind ahead.len c.args.tokens.now) c.requires (omega (arith, c.number.ensures)) c.in-Some.ensures.exact)

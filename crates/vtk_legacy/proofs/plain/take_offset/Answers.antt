@@ -6,5 +6,5 @@ use Rattle.vtk_legacy.proofs.plain.take_offset.Goals as goal
 pub returns : goal.returns
 returns c =
     let ahead = c.in-Some.ahead in
-    rw (c.pass.ensures, c.in_ok-push_row.ensures.ok)
+    rw (c.pass.ensures, c.in_ok-push_size.ensures.ok)
     (offset_passes c.args.more c.args.before c.args.numbers ahead.value c.args.got.now c.args.tokens.now (behind ahead.len c.args.tokens.now) c.requires (omega arith) (omega arith) (omega arith) c.in-Some.ensures.exact)

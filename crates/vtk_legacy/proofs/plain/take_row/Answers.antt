@@ -10,4 +10,4 @@ returns c place =
     let four = c.in-Some-corners_below.ensures in
     let below = subst (λ n. AreBelow n ahead.values) c.number.ensures four.1 in
     let passes = four_passes c.args.more c.args.room place c.args.got.now c.args.tokens.now (behind ahead.len c.args.tokens.now) ahead.values c.requires c.if-room-lt5.false four.2 below c.in-Some.ensures.exact in
-    rw (c.pass.ensures, c.in_ok-push_four.ensures.ok, four.0) passes
+    rw (c.pass.ensures, c.in_ok-push_row.ensures.ok, four.0) passes
