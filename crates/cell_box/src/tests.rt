@@ -29,7 +29,14 @@ fn cells_of_box(
 ) -> Result<(Route, CellNumbers), Fail> {
     let mut marks = Marks::new(alloc, step.points())?;
     let incidence = Incidence::build(alloc, step)?;
-    Ok(cells_in(alloc, step, &incidence, &area_of(&lo, &hi).ok_or("box")?, &mut marks, how)?)
+    Ok(cells_in(
+        alloc,
+        step,
+        &incidence,
+        &area_of(&lo, &hi).ok_or("box")?,
+        &mut marks,
+        how,
+    )?)
 }
 
 #[test]

@@ -3,9 +3,9 @@ ghost use Rattle.std.specs.Prelude.{◌≡◌, ◌≤◌, ◌*◌, ◌/◌, ℤ,
 ghost use Rattle.mesh_base.specs.Place.{Place, IsPlace, IsArea};
 ghost use Rattle.octopus.specs.Demo.{between, edge, middle, whole_box, half_box, middle_box, demo_plan, demo_items, demo_script, demo_job, demo_steps, demo_sessions};
 
-use sample_meshes::{Side, block_mesh};
 use mesh_base::{BoxQ, Kernel, NoMemory, Point};
 use run_script::{EditList, Item, ItemList, Job, Plan, PlanList, Script, ScriptFault, SessionList};
+use sample_meshes::{Side, block_mesh};
 use std::alloc::{AllocError, Global};
 
 // How many steps there are.

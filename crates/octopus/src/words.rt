@@ -6,11 +6,11 @@ ghost use Rattle.std.specs.String.{string_bytes};
 ghost use Rattle.octopus.specs.declared.words.Command.TheVariants.{Scan, Box};
 ghost use Rattle.octopus.specs.Words.{coordinate_of, corner_of, area_from, query_of, how_of, cells_on, cells_of, rings_on, rings_of, surface_of, side_of, gen_of, step_of, upgrade_of, command_of, named_as, run_of, demo_of, watch_of, played_of, played_as};
 
-use sample_meshes::{MOST_SIDE, Side};
 use crate::hops::{Hops, MOST_HOPS};
 use cell_box::How;
 use mesh_base::{BoxQ, Point};
 use oct_text::{count, signed};
+use sample_meshes::{MOST_SIDE, Side};
 
 // The greatest number of a step that may be asked for.
 const MOST_STEP: u64 = 10_000;

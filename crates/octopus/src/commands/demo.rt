@@ -6,13 +6,13 @@ ghost use Rattle.step_registry.specs.Lines.{of_session};
 ghost use Rattle.octopus.specs.Lines.{line};
 ghost use Rattle.octopus.specs.Demo.{answer_words, size_words, line_by, lines_by, summary_by, demo_head, demo_job, demo_text};
 
-use sample_meshes::Side;
 use crate::demo_job::make_demo;
 use mesh_base::{Answer, Mesh, NoMemory};
 use oct_edge::Gate;
 use oct_text::put_text;
 use report::{name_of_route, put_labelled};
 use run_threads::run_job;
+use sample_meshes::Side;
 use std::alloc::Global;
 use std::marker::Sync;
 use std::sync::Wait;

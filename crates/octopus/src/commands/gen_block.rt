@@ -3,8 +3,8 @@ ghost use Rattle.std.specs.Prelude.{◌≡◌, IfOk};
 ghost use Rattle.vtk_legacy.specs.Written.{mesh_spelling};
 ghost use Rattle.sample_meshes.specs.Block.{block};
 
-use sample_meshes::{Side, block_mesh};
 use mesh_base::NoMemory;
+use sample_meshes::{Side, block_mesh};
 use std::alloc::Global;
 use vtk_legacy::write_mesh;
 

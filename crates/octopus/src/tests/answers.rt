@@ -5,9 +5,9 @@ use super::texts::{
     BLOCK_1, CLOSED, EMPTY, LONE_POINT, ONE, RICH, SPLIT_TWICE, SPLITS, THREE_SHIFTS,
     THREE_SHIFTS_2, WIDE,
 };
-use sample_meshes::{Side, block_mesh};
 use crate::commands::gen_block::block_text;
 use crate::status::Status;
+use sample_meshes::{Side, block_mesh};
 use std::test::Fail;
 use vtk_legacy::read_mesh;
 
