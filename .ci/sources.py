@@ -14,7 +14,7 @@ KNOWN = {
     "edge_table": {"IsRow-set"},
     "face_table": {"on_ok", "succeeded"},
     "mesh_base": {"insert-In"},
-    "oct_text": {"line_le", "tokens_of", "whole_more"},
+    "oct_text": {"line_le", "none_left", "tokens_of", "whole_more"},
 }
 
 # The files that may make a counter of reads: the bound on the reads of an answer speaks of the counter that the call is handed, so
