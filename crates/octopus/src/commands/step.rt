@@ -10,7 +10,7 @@ ghost use Rattle.octopus.specs.Outcomes.{Owes};
 use crate::files::load_job;
 use crate::outcome::Early;
 use crate::refusal::Refusal;
-use job_steps::{Maker, mesh_of};
+use job_steps::{first_step, mesh_of};
 use mesh_base::NoMemory;
 use oct_edge::Folder;
 use run_script::Job;
@@ -19,16 +19,17 @@ use std::sync::Arc;
 use step_view::Step;
 use vtk_legacy::write_mesh;
 
-// Makes the steps of a job up to this one, and hands out that one alone.
+// Makes the steps of a job up to this one.
 fn make_step(alloc: Global, job: Job, number: u32) -> Result<Step, NoMemory>
     requires { number ≤ length job.plans }
     ensures { IfOk result (λ step. step.mesh ≡ step_at job number) }
 {
-    let mut maker = Maker::new(alloc, Arc::new(alloc, job)?)?;
+    let (first, mut maker) = first_step(alloc, Arc::new(alloc, job)?)?;
+    let mut step = first;
     for _ in 0..number {
-        maker.pass_plain(alloc)?;
+        step = maker.next_plain(alloc)?;
     }
-    maker.last_step(alloc)
+    Ok(step)
 }
 
 // The text of the mesh of a step.
