@@ -4,14 +4,14 @@ ghost use Rattle.std.specs.Prelude.{◌≡◌, ℕ, ◌+◌, ◌-◌, ◌<◌, �
 ghost use Rattle.mesh_base.specs.Mesh.{AreWithin};
 ghost use Rattle.cell_box.specs.Rows.{IsCounted, IsPlaced, corners_before, start_of, sum_to};
 
-use mesh_base::NoMemory;
+use mesh_base::{MOST_CELLS, NoMemory};
 use std::alloc::Global;
 use topo::Shape;
 
 // Counts the corners of cell number i.
 fn count_cell(shape: &Shape, i: u32, starts: &mut [usize])
     requires cell { i < length shape.now.cells }
-    requires few { length shape.now.cells ≤ 4000000 }
+    requires few { length shape.now.cells ≤ MOST_CELLS }
     requires within { AreWithin (length starts.old - 1) shape.now.cells }
     requires counted { IsCounted (corners_before shape.now.cells i) starts.old }
     ensures counted { IsCounted (corners_before shape.now.cells (i + 1)) starts.new }
@@ -69,7 +69,7 @@ pub(crate) fn starts_of(alloc: Global, shape: &Shape) -> Result<(Vec<usize>, usi
 // Places cell number i in the rows of its corners.
 fn place_cell(shape: &Shape, i: u32, starts: &mut [usize], numbers: &mut [u32])
     requires cell { i < length shape.now.cells }
-    requires few { length shape.now.cells ≤ 4000000 }
+    requires few { length shape.now.cells ≤ MOST_CELLS }
     requires within { AreWithin (length starts.old - 1) shape.now.cells }
     requires room { length numbers.old ≡ start_of (corners_before shape.now.cells (length shape.now.cells)) (length starts.old - 1) }
     requires placed { IsPlaced (corners_before shape.now.cells (length shape.now.cells)) (corners_before shape.now.cells i) starts.old numbers.old }

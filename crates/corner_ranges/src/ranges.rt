@@ -5,7 +5,7 @@ ghost use Rattle.corner_ranges.specs.Ranges.{corners_in, AreSlotsOf};
 use crate::slots::{fill_slots, first_slots};
 use crate::visits::list_cells;
 use crate::{Corner, RANGE};
-use mesh_base::{Cell, NoMemory};
+use mesh_base::{Cell, MOST_CELLS, NoMemory};
 use std::alloc::Global;
 use std::marker::Model;
 
@@ -53,7 +53,7 @@ impl<'a> CornerRanges<'a> {
         points: u32,
         cells: &'a [Option<Cell>],
     ) -> Result<CornerRanges<'a>, NoMemory>
-        requires few_cells { length cells.now ≤ 4000000 }
+        requires few_cells { length cells.now ≤ MOST_CELLS }
         ensures cells { IfOk result (λ ranges. ranges.cells ≡ cells.now) }
         ensures covers { IfOk result (λ ranges. points ≤ ranges.count * 32768) }
         ensures needed { IfOk result (λ ranges. ranges.count * 32768 < points + 32768) }

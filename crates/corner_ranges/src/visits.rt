@@ -3,7 +3,7 @@ ghost use Rattle.std.specs.Prelude.{◌≡◌, ℕ, ◌+◌, ◌<◌, ◌≤◌,
 ghost use Rattle.corner_ranges.specs.Visits.{reaches, listed, HaveRanges};
 
 use crate::RANGE;
-use mesh_base::{Cell, NoMemory};
+use mesh_base::{Cell, MOST_CELLS, NoMemory};
 use std::alloc::Global;
 
 // Lists number i for the range, if that is wanted and there is such a range.
@@ -62,7 +62,7 @@ pub fn list_cells(
     count: u32,
     cells: &[Option<Cell>],
 ) -> Result<Vec<Vec<u32>>, NoMemory>
-    requires few_cells { length cells.now ≤ 4000000 }
+    requires few_cells { length cells.now ≤ MOST_CELLS }
     ensures len { IfOk result (λ visits. vec_len visits ≡ count) }
     ensures listed { IfOk result (λ visits. HaveRanges cells.now count visits.items) }
 {

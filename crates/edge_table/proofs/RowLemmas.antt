@@ -1,11 +1,10 @@
 -- the numbers of a row after a change at one place
 use Rattle.std.proofs.Common.{◌≡◌, ◌≢◌, ℕ, zero, suc, ◌+◌, ◌<◌, ◌≤◌, inl, inr, Bool, true, false, cond, eqb, List, [], ◌∷◌, length, get_or, set, insert, remove, All, Contains, refl, sym, ap, ◌∙◌, arith}
 use Rattle.std.proofs.lemmas.Bool.Decides.{nat_tests}
-use Rattle.std.proofs.lemmas.List.{length-set}
 use Rattle.std.proofs.lemmas.List.Edits.{length-insert, length-remove}
 use Rattle.std.proofs.lemmas.Bool.{cases_lt}
 use Rattle.std.proofs.lemmas.List.{get_or_default}
-use Rattle.std.proofs.lemmas.List.Elements.{All-set, All-from_recursion, recursion_from_All}
+use Rattle.std.proofs.lemmas.List.Elements.{All-from_recursion, recursion_from_All}
 use Rattle.std.specs.List.{AllByRecursion}
 use Rattle.mesh_base.proofs.Ascending.{In, Asc, In-get_or, Contains-from_In, Asc-from_increasing, increasing-from_Asc, Asc-insert, Asc-remove}
 use Rattle.mesh_base.specs.Numbers.{IsPlaceOf}
@@ -91,13 +90,6 @@ not_in w xs i p h = by (Contains-from_In xs w h)
   where
     by : Contains xs w → ⊥
     by (k, lt, e) = elim (cases_lt k i) [ inl l ↦ (let b = p.before k l in let d = get_or_default xs k w 0 lt in omega arith) | inr g ↦ (let b = p.after k g lt in let d = get_or_default xs k w 0 lt in omega arith) ]
-
-pub IsRow-set : (xs ns : List ℕ) (i n : ℕ) → 0 < n → i < length xs → IsRow xs ns → IsRow xs (set ns i n)
-IsRow-set xs ns i n lt at r = record {
-  ascending = r.ascending;
-  even = length-set ns i n ∙ r.even;
-  some = All-set (λ k. 0 < k) ns i n lt r.some;
-}
 
 pub IsRow-insert : (xs ns : List ℕ) (i w n : ℕ) → 0 < n → IsPlaceOf w xs i → IsRow xs ns → IsRow (insert xs i w) (insert ns i n)
 IsRow-insert xs ns i w n lt p r = record {

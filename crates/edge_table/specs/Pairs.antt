@@ -3,6 +3,7 @@ use Rattle.std.specs.Prelude.{◌≡◌, ℕ, false, ◌-◌, ◌<◌, ◌==◌,
 use Rattle.mesh_base.specs.Mesh.{Corners, has_corner, live, is_vertex}
 use Rattle.mesh_base.specs.Edit.{cell_at}
 use Rattle.std.specs.List.Sorted.{IsStrictlyIncreasing}
+use Rattle.mesh_base.specs.Limits.{most_cells}
 
 -- the number that stands at the place of w, or 0
 abbrev pub number_at : List ℕ → List ℕ → ℕ → ℕ
@@ -42,7 +43,7 @@ HasCell rows c = (cells : List (Option Corners)) × (i : ℕ) × IsPairsOf cells
 
 -- the table has the pairs of so few cells that one more is allowed
 abbrev pub HasRoom : List RowView → Type 0
-HasRoom rows = (cells : List (Option Corners)) × IsPairsOf cells rows × (length cells < 4000000)
+HasRoom rows = (cells : List (Option Corners)) × IsPairsOf cells rows × (length cells < most_cells)
 
 -- the table has the pairs of some cells, none of which has the last point
 abbrev pub HasFreePoint : List RowView → Type 0

@@ -10,7 +10,7 @@ use crate::row::Row;
 use crate::times::add_to;
 use corner_ranges::laws::are_different;
 use corner_ranges::{Corner, CornerRanges};
-use mesh_base::{Cell, NoMemory};
+use mesh_base::{Cell, MOST_CELLS, NoMemory};
 use std::alloc::Global;
 
 // The most that one entry of the seen pairs counts.
@@ -154,7 +154,7 @@ pub fn count_cells(
     points: u32,
     cells: &[Option<Cell>],
 ) -> Result<(), NoMemory>
-    requires few_cells { length cells.now ≤ 4000000 }
+    requires few_cells { length cells.now ≤ MOST_CELLS }
     requires within { AreWithin points cells.now }
     requires rows { AreRows (shown rows.old.items) }
     requires none { (a u : ℕ) → pair_count (shown rows.old.items) a u ≡ 0 }

@@ -5,7 +5,7 @@ ghost use Rattle.smallvec.specs.SmallVec.{HasRoomFor};
 ghost use Rattle.mesh_base.specs.Numbers.{IsPlaceOf};
 ghost use Rattle.edge_table.specs.Pairs.{number_at, IsRow};
 
-use mesh_base::{NoMemory, place_of};
+use mesh_base::{MOST_CELLS, NoMemory, place_of};
 use smallvec::SmallVec;
 use std::alloc::Global;
 
@@ -157,7 +157,7 @@ pub fn add_three(row: &mut Row, x: u32, y: u32, z: u32)
     requires row { IsRow row.old.near.items row.old.counts.items }
     requires near_room { HasRoomFor row.old.near 3 }
     requires counts_room { HasRoomFor row.old.counts 3 }
-    requires fits { (u : ℕ) → number_at row.old.near.items row.old.counts.items u < 4000000 }
+    requires fits { (u : ℕ) → number_at row.old.near.items row.old.counts.items u < MOST_CELLS }
     ensures row { IsRow row.new.near.items row.new.counts.items }
     ensures numbers { (u : ℕ) → number_at row.new.near.items row.new.counts.items u
         ≡ number_at row.old.near.items row.old.counts.items u
@@ -177,7 +177,7 @@ pub fn split_three(row: &mut Row, x: u32, y: u32, z: u32, w: u32)
     requires last { (u : ℕ) → 0 < number_at row.old.near.items row.old.counts.items u → u < w }
     requires near_room { HasRoomFor row.old.near 1 }
     requires counts_room { HasRoomFor row.old.counts 1 }
-    requires fits { (u : ℕ) → number_at row.old.near.items row.old.counts.items u < 4000000 }
+    requires fits { (u : ℕ) → number_at row.old.near.items row.old.counts.items u < MOST_CELLS }
     ensures row { IsRow row.new.near.items row.new.counts.items }
     ensures numbers { (u : ℕ) → number_at row.new.near.items row.new.counts.items u
         ≡ number_at row.old.near.items row.old.counts.items u

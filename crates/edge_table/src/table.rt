@@ -6,7 +6,7 @@ ghost use Rattle.edge_table.specs.Pairs.{pair_count, pair_share, cell_pairs};
 ghost use Rattle.edge_table.specs.Rows.{shown, AreRows, HasRoomAt, HaveRoom};
 
 use crate::row::{Row, add_three, drop_three, reserve_more, split_three};
-use mesh_base::{Cell, NoMemory};
+use mesh_base::{Cell, MOST_CELLS, NoMemory};
 
 // Makes room for so many more neighbours of v.
 fn reserve_at(rows: &mut Vec<Row>, v: u32, more: usize) -> Result<(), NoMemory>
@@ -38,7 +38,7 @@ fn add_at(rows: &mut Vec<Row>, v: u32, x: u32, y: u32, z: u32)
     requires within { v < vec_len rows.old }
     requires rows { AreRows (shown rows.old.items) }
     requires room { HasRoomAt 3 rows.old.items v }
-    requires fits { (u : ℕ) → pair_count (shown rows.old.items) v u < 4000000 }
+    requires fits { (u : ℕ) → pair_count (shown rows.old.items) v u < MOST_CELLS }
     ensures rows { AreRows (shown rows.new.items) }
     ensures len { vec_len rows.new ≡ vec_len rows.old }
     ensures here { (u : ℕ) → pair_count (shown rows.new.items) v u
@@ -73,7 +73,7 @@ pub fn put_pairs(rows: &mut Vec<Row>, cell: &Cell)
     requires within { IsWithin (vec_len rows.old) cell.now }
     requires rows { AreRows (shown rows.old.items) }
     requires room { HaveRoom 3 rows.old.items cell.now }
-    requires fits { (v u : ℕ) → pair_count (shown rows.old.items) v u < 4000000 }
+    requires fits { (v u : ℕ) → pair_count (shown rows.old.items) v u < MOST_CELLS }
     ensures rows { AreRows (shown rows.new.items) }
     ensures len { vec_len rows.new ≡ vec_len rows.old }
     ensures pairs { (v u : ℕ) → pair_count (shown rows.new.items) v u
@@ -110,7 +110,7 @@ fn split_at(rows: &mut Vec<Row>, v: u32, x: u32, y: u32, z: u32, w: u32)
         ≤ pair_count (shown rows.old.items) v u }
     requires last { (u : ℕ) → 0 < pair_count (shown rows.old.items) v u → u < w }
     requires room { HasRoomAt 1 rows.old.items v }
-    requires fits { (u : ℕ) → pair_count (shown rows.old.items) v u < 4000000 }
+    requires fits { (u : ℕ) → pair_count (shown rows.old.items) v u < MOST_CELLS }
     ensures rows { AreRows (shown rows.new.items) }
     ensures len { vec_len rows.new ≡ vec_len rows.old }
     ensures capacity { vec_capacity rows.new ≡ vec_capacity rows.old }
@@ -132,7 +132,7 @@ pub fn split_pairs(rows: &mut Vec<Row>, point: u32, cell: &Cell)
     requires there { (v u : ℕ) → pair_share cell.now v u ≤ pair_count (shown rows.old.items) v u }
     requires last { (v u : ℕ) → 0 < pair_count (shown rows.old.items) v u → u < point }
     requires room { HaveRoom 1 rows.old.items cell.now }
-    requires fits { (v u : ℕ) → pair_count (shown rows.old.items) v u < 4000000 }
+    requires fits { (v u : ℕ) → pair_count (shown rows.old.items) v u < MOST_CELLS }
     ensures rows { AreRows (shown rows.new.items) }
     ensures len { vec_len rows.new ≡ vec_len rows.old }
     ensures capacity { vec_capacity rows.new ≡ vec_capacity rows.old }

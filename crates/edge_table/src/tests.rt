@@ -5,7 +5,8 @@ ghost use Rattle.mesh_base.specs.Mesh.{corners_of};
 ghost use Rattle.edge_table.specs.Pairs.{IsPairsOf};
 
 use crate::EdgeTable;
-use mesh_base::{Cell, CellList, MOST_CELLS, Mesh, Point, PointList};
+use mesh_base::{Cell, CellList, MOST_CELLS, MOST_POINTS, Mesh, Point, PointList};
+use sample_meshes::block_mesh;
 use std::alloc::Global;
 use std::test::Fail;
 
@@ -215,7 +216,7 @@ fn split_first(
     count: u32,
 ) -> Result<(), Fail>
     requires points { length table.old ≡ points }
-    requires few { points + count < 1000000 }
+    requires few { points + count < MOST_POINTS }
     requires pairs { IsPairsOf cells.old.items table.old }
     ensures points { OnOk result (length table.new ≡ points + count) }
     ensures pairs { OnOk result (IsPairsOf cells.new.items table.new) }
@@ -294,48 +295,20 @@ fn points_come_and_go(rt: HostRuntime) -> Result<(), Fail> {
     Ok(())
 }
 
-// The six cells of a cube whose least corner is p, where its rows are y apart and its layers z.
-fn cube(p: u32, y: u32, z: u32) -> [[u32; 4]; 6] {
-    let x = p.wrapping_add(1);
-    let xy = x.wrapping_add(y);
-    let xz = x.wrapping_add(z);
-    let yz = p.wrapping_add(y).wrapping_add(z);
-    let q = xy.wrapping_add(z);
-    let y = p.wrapping_add(y);
-    let z = p.wrapping_add(z);
-    [
-        [p, x, xy, q],
-        [p, x, xz, q],
-        [p, y, xy, q],
-        [p, y, yz, q],
-        [p, z, xz, q],
-        [p, z, yz, q],
-    ]
-}
-
-// The cells of a block of n cubes a side.
-fn block(alloc: Global, n: u32) -> Result<Vec<[u32; 4]>, Fail> {
-    let mut cells = Vec::new(alloc);
-    let y = n.wrapping_add(1);
-    let z = y.wrapping_mul(y);
-    for k in 0..n {
-        for j in 0..n {
-            for i in 0..n {
-                let p = i
-                    .wrapping_add(y.wrapping_mul(j))
-                    .wrapping_add(z.wrapping_mul(k));
-                cells.extend_from_slice(&cube(p, y, z))?;
-            }
-        }
+// The corners of the cells of the block of 20 cubes a side.
+fn block(alloc: Global) -> Result<Vec<[u32; 4]>, Fail> {
+    let mut corners = Vec::new(alloc);
+    for cell in block_mesh(alloc, 20)?.cells().iter().flatten() {
+        corners.push(cell.corners())?;
     }
-    Ok(cells)
+    Ok(corners)
 }
 
 // The sum of all degrees was counted by a script of a few lines that keeps a set for each point.
 #[test]
 fn ten_thousand_splits_are_as_built_anew(rt: HostRuntime) -> Result<(), Fail> {
     let alloc = rt.alloc();
-    let corners = block(alloc, 20)?;
+    let corners = block(alloc)?;
     let mut table = bare(alloc, 9_261)?;
     let mut cells = Vec::new(alloc);
     fill(alloc, &mut table, 9_261, &mut cells, &corners)?;

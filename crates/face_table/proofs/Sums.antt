@@ -1,5 +1,5 @@
 -- what a change of one entry does to a sum over the entries
-use Rattle.std.proofs.Common.{◌≡◌, ℕ, ◌+◌, ◌<◌, ◌≤◌, ◌≢◌, Bool, true, false, cond, eqb, ◌&&◌, List, [], ◌∷◌, length, take, get_or, slice_get, sum_by, position, zero, suc, Result, Ok, Err, IsOk, OnOk, OnErr, Option, Some, None, unwrap_or, IfSome, not, refl, sym, ap, subst, ◌∙◌, arith}
+use Rattle.std.proofs.Common.{◌≡◌, ℕ, ◌+◌, ◌<◌, ◌≤◌, ◌≢◌, Bool, true, false, cond, eqb, ◌&&◌, List, [], ◌∷◌, length, take, get_or, slice_get, sum_by, position, zero, suc, Result, Ok, Err, IsOk, OnOk, Option, Some, None, unwrap_or, IfSome, not, refl, sym, ap, subst, ◌∙◌, arith}
 use Rattle.std.specs.Option.{option_map_or}
 use Rattle.std.specs.Map.{lookup, lookup_key, keys_of, values_of}
 use Rattle.std.specs.List.{swap_remove, position_or_len}
@@ -199,11 +199,6 @@ some_of k es lt = by (lookup (face_eq k) es) lt
     by : (o : Option ℕ) → 0 < unwrap_or o 0 → o ≡ Some (unwrap_or o 0)
     by None lt = absurd (omega arith)
     by (Some n) lt = refl
-
--- an insert with room, or at a face that is there, does not fail
-pub succeeded : {T E : Type 0} (r : Result T E) (o : Option ℕ) (room : ℕ) → OnErr r (o ≡ None) → (0 < room → IsOk r) → (unwrap_or o 0 ≡ 0 → 0 < room) → IsOk r
-succeeded (Ok x) o room absent enough need = refl
-succeeded (Err e) o room absent enough need = enough (need (ap (λ p. unwrap_or p 0) absent))
 
 -- the new count of every face, where one face is counted once more, or once less
 pub tally_more : (es : Counts) (k f : Face) → cond (face_eq k f) (tally_in es k + 1) (tally_in es f) ≡ tally_in es f + cond (face_eq k f) 1 0

@@ -5,6 +5,7 @@ use Rattle.std.specs.Map.{lookup}
 use Rattle.std.specs.declared.alloc.Global.{Global}
 use Rattle.mesh_base.specs.Mesh.{Face, Corners, is_on, is_vertex, face_eq, face_count}
 use Rattle.mesh_base.specs.Edit.{cell_at}
+use Rattle.mesh_base.specs.Limits.{most_cells}
 
 -- faces with their counts, each face once
 abbrev pub Counts : Type 0
@@ -81,7 +82,7 @@ HasCell table c = (cells : List (Option Corners)) × (i : ℕ) × IsTallyOf cell
 
 -- the table counts the faces of so few cells that one more is allowed
 abbrev pub HasRoom : Tally → Type 0
-HasRoom table = (cells : List (Option Corners)) × IsTallyOf cells table × (length cells < 4000000)
+HasRoom table = (cells : List (Option Corners)) × IsTallyOf cells table × (length cells < most_cells)
 
 -- the table counts the faces of some cells, none of which has the last point
 abbrev pub HasFreePoint : Tally → Type 0

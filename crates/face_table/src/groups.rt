@@ -9,7 +9,7 @@ use crate::face_counts::FaceCounts;
 use crate::known::rank;
 use corner_ranges::laws::are_different;
 use corner_ranges::{Corner, CornerRanges};
-use mesh_base::{Cell, Face, NoMemory};
+use mesh_base::{Cell, Face, MOST_CELLS, NoMemory};
 use std::alloc::Global;
 
 // Notes the face of v, x and y, where v is the least of them.
@@ -120,7 +120,7 @@ pub fn count_cells(
     points: u32,
     cells: &[Option<Cell>],
 ) -> Result<FaceCounts, NoMemory>
-    requires few_cells { length cells.now ≤ 4000000 }
+    requires few_cells { length cells.now ≤ MOST_CELLS }
     requires within { AreWithin points cells.now }
     ensures tally { IfOk result (λ counts. (f : PlainFace) → tally_in counts.entries f ≡ face_count cells.now f) }
 {

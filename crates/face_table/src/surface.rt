@@ -5,7 +5,7 @@ ghost use Rattle.mesh_base.specs.Numbers.{IsPlaceOf};
 ghost use Rattle.std.specs.List.Sorted.{IsStrictlyIncreasing};
 ghost use Rattle.face_table.specs.Tally.{IsBelow, Matches};
 
-use mesh_base::{Cell, NoMemory, place_of};
+use mesh_base::{Cell, MOST_POINTS, NoMemory, place_of};
 use std::alloc::Global;
 
 // Takes out the number at i.
@@ -108,7 +108,7 @@ fn is_single(singles: &Vec<usize>, v: usize) -> bool
 
 // The vertices with a single face, ascending, with room for all points.
 pub fn list_surface(alloc: Global, singles: &Vec<usize>) -> Result<Vec<u32>, NoMemory>
-    requires few { vec_len singles.now ≤ 1000000 }
+    requires few { vec_len singles.now ≤ MOST_POINTS }
     ensures below { IfOk result (λ surface. IsBelow (vec_len singles.now) surface) }
     ensures all { IfOk result (λ surface. (w : ℕ) → Matches singles.now.items surface.items w) }
 {

@@ -10,7 +10,7 @@ use crate::face_counts::{FaceCounts, count_split};
 use crate::groups::count_cells;
 use crate::singles::{list_singles, put_faces, take_faces};
 use crate::surface::{list_surface, reserve_point, settle_corners};
-use mesh_base::{Cell, Face, NoMemory};
+use mesh_base::{Cell, Face, MOST_CELLS, MOST_POINTS, NoMemory};
 use std::alloc::Global;
 use std::marker::Model;
 
@@ -46,8 +46,8 @@ impl FaceTable {
     /// It passes three times over the cells, and looks at each again for each range of points that it has corners in. It
     /// gathers and sorts the faces point by point, and then passes twice over the faces and twice over the points.
     pub fn build(alloc: Global, points: u32, cells: &[Option<Cell>]) -> Result<FaceTable, NoMemory>
-        requires few_points { points ≤ 1000000 }
-        requires few_cells { length cells.now ≤ 4000000 }
+        requires few_points { points ≤ MOST_POINTS }
+        requires few_cells { length cells.now ≤ MOST_CELLS }
         requires within { AreWithin points cells.now }
         ensures points { IfOk result (λ table. table.points ≡ points) }
         ensures cells { IfOk result (IsTallyOf cells.now) }

@@ -5,7 +5,7 @@ ghost use Rattle.mesh_base.specs.Mesh.{IsWithin, corners_of};
 ghost use Rattle.face_table.specs.Tally.{IsTallyOf};
 
 use crate::FaceTable;
-use mesh_base::{Cell, CellList, Face, MOST_CELLS, Mesh, Point, PointList};
+use mesh_base::{Cell, CellList, Face, MOST_CELLS, MOST_POINTS, Mesh, Point, PointList};
 use std::alloc::Global;
 use std::test::Fail;
 
@@ -198,7 +198,7 @@ fn split_first(
     count: u32,
 ) -> Result<(), Fail>
     requires points { table.old.points ≡ points }
-    requires few { points + count < 1000000 }
+    requires few { points + count < MOST_POINTS }
     requires cells { IsTallyOf cells.old.items table.old }
     ensures points { OnOk result (table.new.points ≡ points + count) }
     ensures cells { OnOk result (IsTallyOf cells.new.items table.new) }

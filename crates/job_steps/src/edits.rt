@@ -6,7 +6,7 @@ ghost use Rattle.topo.specs.Topology.{IsTopologyOf};
 ghost use Rattle.run_script.specs.Jobs.{all_edited};
 ghost use Rattle.job_steps.specs.Added.{new_point, new_points, AllFit};
 
-use mesh_base::{Edit, NoMemory, Point, PointList};
+use mesh_base::{Edit, MOST_POINTS, NoMemory, Point, PointList};
 use run_script::LinedEdit;
 use std::alloc::Global;
 use std::sync::Arc;
@@ -52,7 +52,7 @@ fn joined(
     added: &[Point],
 ) -> Result<Arc<Positions>, NoMemory>
     requires count { length old.now + length added.now ≡ count }
-    requires few { count ≤ 1000000 }
+    requires few { count ≤ MOST_POINTS }
     ensures { IfOk result (λ places. arc_value places ≡ old.now ++ added.now) }
 {
     let mut points = Vec::with_capacity(alloc, count as usize)?;
@@ -72,7 +72,7 @@ pub fn with_added(
     count: u32,
 ) -> Result<Arc<Positions>, NoMemory>
     requires count { length (arc_value old.now) + length added.now ≡ count }
-    requires few { count ≤ 1000000 }
+    requires few { count ≤ MOST_POINTS }
     ensures { IfOk result (λ places. arc_value places ≡ arc_value old.now ++ added.now) }
 {
     if added.is_empty() {

@@ -5,6 +5,7 @@ use Rattle.mesh_base.specs.Place.{IsPlace}
 use Rattle.mesh_base.specs.Mesh.{MeshView, Corners, corners_of, AreDifferent, IsWithin}
 use Rattle.mesh_base.specs.declared.edit.Edit.{Edit}
 use Rattle.mesh_base.specs.declared.edit.Edit.TheVariants.{Point, Add, Remove, Split}
+use Rattle.mesh_base.specs.Limits.{most_cells, most_points}
 
 -- the corners of cell i, if it is there and live
 abbrev pub cell_at : List (Option Corners) → ℕ → Option Corners
@@ -31,11 +32,11 @@ edited mesh (Split i at) =
 
 -- the edit names points and live cells that are there, and the mesh stays within its limits
 abbrev pub EditFits : MeshView → Edit → Type 0
-EditFits mesh (Point at) = length mesh.points < 1000000
+EditFits mesh (Point at) = length mesh.points < most_points
 EditFits mesh (Add corners) =
-    IsWithin (length mesh.points) (corners_of corners) × AreDifferent (corners_of corners) × (length mesh.cells < 4000000)
+    IsWithin (length mesh.points) (corners_of corners) × AreDifferent (corners_of corners) × (length mesh.cells < most_cells)
 EditFits mesh (Remove i) = IsSome (cell_at mesh.cells i)
-EditFits mesh (Split i at) = IsSome (cell_at mesh.cells i) × (length mesh.points < 1000000) × (length mesh.cells ≤ 3999996)
+EditFits mesh (Split i at) = IsSome (cell_at mesh.cells i) × (length mesh.points < most_points) × (length mesh.cells ≤ 3999996)
 
 -- the point that the edit adds, if it adds one, is in range
 abbrev pub AddsInRange : Edit → Type 0

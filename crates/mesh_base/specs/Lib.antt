@@ -11,3 +11,4 @@ pub mod Answer
 pub mod Reads
 pub mod Samples
 pub mod Query
+pub mod Limits

@@ -2,6 +2,7 @@
 use Rattle.std.specs.Prelude.{◌≢◌, ℕ, ◌<◌, ◌≤◌, min, max, ◌==◌, Bool, not, ◌&&◌, ◌||◌, pos, List, [], ◌∷◌, length, Option, count_by, filter, filter_map, flat_map, slice_index, slice_index_or, All, IfSome}
 use Rattle.std.specs.List.{list_any, range_with_len}
 use Rattle.mesh_base.specs.Place.{Place}
+use Rattle.mesh_base.specs.Limits.{most_cells, most_points}
 
 -- a cell: four point numbers
 abbrev pub Corners : Type 0
@@ -38,8 +39,8 @@ AreAllDifferent cells = All (λ cell. IfSome cell AreDifferent) cells
 
 -- the limits, and each live cell has four different points of the mesh
 pub record IsMesh (points : List Place) (cells : List (Option Corners)) : Type 0 where
-  pub few_points : length points ≤ 1000000
-  pub few_cells : length cells ≤ 4000000
+  pub few_points : length points ≤ most_points
+  pub few_cells : length cells ≤ most_cells
   pub within : AreWithin (length points) cells
   pub different : AreAllDifferent cells
 

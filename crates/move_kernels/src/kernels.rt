@@ -7,7 +7,7 @@ ghost use Rattle.topo.specs.Topology.{mesh_at};
 
 use crate::motion::Motion;
 use crate::point::held_point;
-use mesh_base::{Axis, Point};
+use mesh_base::{Axis, MOST_POINTS, Point};
 use topo::{Positions, Shape};
 
 /// Every point stays.
@@ -162,13 +162,13 @@ pub struct Relaxed<'a> {
     pub old: &'a Positions,
     pub shape: &'a Shape,
     ghost each_has_one: { length old.now ≡ shape.now.points },
-    ghost few: { length old.now ≤ 1000000 },
+    ghost few: { length old.now ≤ MOST_POINTS },
 }
 
 // The sum of the places of these points on each axis.
 fn sum_of(old: &Positions, near: &[u32]) -> (i64, i64, i64)
     requires within { All (λ w. w < length old.now) near.now }
-    requires few { length near.now ≤ 1000000 }
+    requires few { length near.now ≤ MOST_POINTS }
     ensures { result ≡ fold plus (pos 0, pos 0, pos 0) (map (λ w. slice_index_or old.now w (pos 0, pos 0, pos 0)) near.now) }
 {
     let mut x = 0;

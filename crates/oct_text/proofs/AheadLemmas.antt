@@ -12,7 +12,7 @@ use Rattle.oct_text.specs.declared.ahead.CountFront.{CountFront}
 use Rattle.oct_text.specs.Rest.{is_blank, solid_len, Rest, behind, past_blanks}
 use Rattle.oct_text.specs.Numbers.{is_digit, are_digits, is_numeral, coordinate_of}
 use Rattle.oct_text.specs.Taken.{Takes, token_taken}
-use Rattle.oct_text.specs.Ahead.{TakesCount, TakesCounts, TakesWhole, TakesWholes, HasCount, HasWhole, rest_of}
+use Rattle.oct_text.specs.Ahead.{TakesCount, TakesCounts, TakesWhole, HasCount, HasWhole, rest_of}
 use Rattle.oct_text.proofs.TokenLemmas.{prefix_stays, prefix_len-passed, is_taken}
 
 pub digit-solid : (b : ℕ) → is_digit b ≡ true → is_blank b ≡ false
@@ -135,7 +135,3 @@ whole_next r bytes len z k is h = subst (TakesWhole (behind len r) z) (behind_tw
 pub count_more : (ns : List ℕ) (n : ℕ) (old mid new : Rest) → TakesCounts old ns mid → TakesCount mid n new → TakesCounts old (ns ++ n ∷ []) new
 count_more [] n old mid new e t = subst (λ (x : Rest). TakesCounts x (n ∷ []) new) e (new, t, refl)
 count_more (m ∷ ns) n old mid new h t = (h.0, h.1, count_more ns n h.0 mid new h.2 t)
-
-pub whole_more : (zs : List ℤ) (z : ℤ) (old mid new : Rest) → TakesWholes old zs mid → TakesWhole mid z new → TakesWholes old (zs ++ z ∷ []) new
-whole_more [] z old mid new e t = subst (λ (x : Rest). TakesWholes x (z ∷ []) new) e (new, t, refl)
-whole_more (y ∷ zs) z old mid new h t = (h.0, h.1, whole_more zs z h.0 mid new h.2 t)

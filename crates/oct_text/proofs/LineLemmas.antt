@@ -70,9 +70,6 @@ pub record Searched (most : ℕ) (bytes : List ℕ) (len front : ℕ) : Type 0 w
 found_len : (most : ℕ) (bytes : List ℕ) (len front : ℕ) → Searched most bytes len front → len ≡ min (line_len bytes) front
 found_len most bytes len front s = s.len-is ∙ prefix_len-take (λ b. not (is_lf b)) front bytes
 
-line_le : (bytes : List ℕ) → line_len bytes ≤ length bytes
-line_le bytes = prefix_len-le-length (λ b. not (is_lf b)) bytes
-
 front_no : (most : ℕ) (bytes : List ℕ) → (line_len bytes < length bytes → line_len bytes < most + 2 → ⊥) → line_front most bytes ≡ cond (leb (most + 2) (length bytes)) IsLong NoLine
 unfolding line_front
 front_no most bytes absent =

@@ -2,7 +2,7 @@
 use Rattle.std.proofs.Common.{◌≡◌, ℕ, suc, ◌+◌, ◌-◌, ◌^◌, ◌<◌, ◌≤◌, ◌⊎◌, inl, inr, Bool, true, false, not, eqb, List, [], ◌∷◌, ◌++◌, length, take, drop, Some, refl, sym, ap, subst, ◌∙◌, arith}
 use Rattle.std.specs.Prelude.{nat_lt, ◌||◌, ◌&&◌}
 use Rattle.std.specs.List.{prefix_len}
-use Rattle.std.proofs.lemmas.List.{nil_from_length, take-append-le, drop-append-le, drop-drop, append-nil, length-drop, length-append}
+use Rattle.std.proofs.lemmas.List.{take-append-le, drop-append-le, drop-drop, append-nil, length-drop, length-append}
 use Rattle.std.proofs.lemmas.List.Sums.{prefix_len-le-length}
 use Rattle.std.proofs.lemmas.Bool.{ne_eqb, cases_lt}
 use Rattle.std.proofs.lemmas.Bool.Decides.{nat_tests}
@@ -116,12 +116,6 @@ pub is_taken : (old r : Rest) (len : ℕ) (text : List ℕ) (new : Rest) → r �
 is_taken old r len text new r-is =
     subst (λ (r : Rest). len ≡ solid_len r.bytes → (nat_lt len (length r.bytes) || (r.ended && nat_lt 0 (length r.bytes))) ≡ true → text ≡ take len r.bytes → new ≡ behind len r → IsNext old r text new)
     (sym r-is) (taken_from old len text new)
-
--- nothing is left where the text has ended and no token stands there
-pub none_left : (len : ℕ) (r : Rest) → (nat_lt len (length r.bytes) || (r.ended && nat_lt 0 (length r.bytes))) ≡ false → r.ended ≡ true → r.bytes ≡ []
-none_left len r none ended =
-    let h = rw ended at none in
-    nil_from_length r.bytes (grind (arith, nat_tests))
 
 -- ---- passing blanks changes nothing
 

@@ -26,9 +26,5 @@ first_tokens (suc n) l = and_then (next_token l) (first_tokens n)
 unfoldable pub tokens : Left → List Token
 tokens l = first_tokens (length l.bytes) l
 
--- the tokens of a whole text
-abbrev pub tokens_of : List ℕ → List Token
-tokens_of text = tokens (record { place = 0; bytes = text })
-
 abbrev pub texts_of : List Token → List (List ℕ)
 texts_of ts = map (λ t. t.text) ts

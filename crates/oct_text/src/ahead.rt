@@ -42,6 +42,7 @@ pub fn behind(bytes: &[u8], count: usize) -> &[u8]
 
 /// The count at the front, where it has at most nine digits, at most three blanks before it and a blank behind it, and at
 /// least 16 bytes are there. It looks at 14 bytes at most.
+#[inline(always)]
 pub fn count_front(bytes: &[u8]) -> Option<CountFront>
     ensures within { IfSome result (λ f. f.len ≤ length bytes.now) }
     ensures exact { IfSome result (λ f. HasCount bytes.now f.value f.len) }

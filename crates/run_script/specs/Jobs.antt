@@ -17,6 +17,7 @@ use Rattle.run_script.specs.declared.script.Item.{Item}
 use Rattle.run_script.specs.declared.script.Item.TheVariants as item
 use Rattle.run_script.specs.Faults.{Fault, fault}
 use Rattle.run_script.specs.Scripts.{ScriptView, most_steps, most_edits, most_sessions, most_boxes, IsPlan, edit_count}
+use Rattle.mesh_base.specs.Limits.{most_cells, most_points}
 
 -- ---- turns
 
@@ -95,16 +96,16 @@ are_different c =
 
 -- the first fault of an edit on a mesh, of which only the number of points and the cells matter
 unfoldable pub edit_fault : MeshView → Edit → Option ScriptKind
-edit_fault mesh (edit.Point at) = if nat_lt (length mesh.points) 1000000 then None else Some kinds.Limit
+edit_fault mesh (edit.Point at) = if nat_lt (length mesh.points) most_points then None else Some kinds.Limit
 edit_fault mesh (edit.Add corners) =
     if not (has_points (length mesh.points) (corners_of corners)) then Some kinds.NoPoint
     else if not (are_different (corners_of corners)) then Some kinds.SameVertex
-    else if nat_lt (length mesh.cells) 4000000 then None
+    else if nat_lt (length mesh.cells) most_cells then None
     else Some kinds.Limit
 edit_fault mesh (edit.Remove i) = if is_some (cell_at mesh.cells i) then None else Some kinds.NoCell
 edit_fault mesh (edit.Split i at) =
     if not (is_some (cell_at mesh.cells i)) then Some kinds.NoCell
-    else if nat_lt (length mesh.points) 1000000 && nat_le (length mesh.cells) 3999996 then None
+    else if nat_lt (length mesh.points) most_points && nat_le (length mesh.cells) 3999996 then None
     else Some kinds.Limit
 
 abbrev pub or_else : {A : Type 0} → Option A → Option A → Option A

@@ -1,20 +1,7 @@
 use super::*;
-use mesh_base::{Cell, CellList, Mesh, Point, PointList};
-use std::alloc::{AllocError, Global};
-use std::process::Abort;
+use sample_meshes::one_cell;
+use std::alloc::Global;
 use std::test::Fail;
-
-/// One tetrahedron.
-fn sample(rt: &impl Abort, alloc: Global) -> Result<Mesh, AllocError> {
-    let mut points = Vec::new(alloc);
-    for (x, y, z) in [(0, 0, 0), (4, 0, 0), (0, 4, 0), (0, 0, 4)] {
-        points.push(Point::new(x, y, z).expect(rt, "in range"))?;
-    }
-    let mut cells = Vec::new(alloc);
-    cells.push(Cell::new([0, 1, 2, 3]))?;
-    let mesh = Mesh::new(PointList::of(points), CellList::of(cells));
-    Ok(mesh.expect(rt, "a mesh"))
-}
 
 fn may_be_shared<T: Send + Sync>() {}
 
@@ -31,7 +18,7 @@ fn an_empty_script_makes_a_job(rt: HostRuntime) -> Result<(), Fail> {
     let plans = PlanList::of(Vec::new(alloc));
     let sessions = SessionList::of(Vec::new(alloc));
     let script = Script::of(1, plans, sessions);
-    let job = Job::check(alloc, sample(&rt, alloc)?, script)?;
+    let job = Job::check(alloc, one_cell(alloc)?, script)?;
     assert_eq!(rt; job.steps(), 0);
     assert_eq!(rt; job.sessions(), 0);
     assert_eq!(rt; job.turn_count(), 0);
@@ -61,7 +48,7 @@ fn a_fault_is_told_in_words(rt: HostRuntime) -> Result<(), Fail> {
 #[test]
 fn a_job_of_a_mesh_alone_has_no_step_and_no_session(rt: HostRuntime) -> Result<(), Fail> {
     let alloc = rt.alloc();
-    let job = Job::still(alloc, sample(&rt, alloc)?)?;
+    let job = Job::still(alloc, one_cell(alloc)?)?;
     assert_eq!(rt; job.steps(), 0);
     assert_eq!(rt; job.sessions(), 0);
     assert_eq!(rt; job.mesh().cells().len(), 1);

@@ -7,6 +7,7 @@ use Rattle.topo.specs.declared.list.Cells.{Cells}
 use Rattle.topo.specs.declared.list.Cells.TheVariants as cells
 use Rattle.topo.specs.declared.cells.ChunkCells.{ChunkCells}
 use Rattle.topo.specs.declared.cells.ChunkCells.TheVariants as chunk
+use Rattle.mesh_base.specs.Limits.{most_points}
 
 -- the cells: those of the mesh, or those of the list
 abbrev pub listed : Cells → List (Option Corners)
@@ -25,5 +26,5 @@ chunk_cells (chunk.Own list) = list.items
 
 -- the chunk begins within the mesh, or at its end
 abbrev pub IsChunk : ChunkCells → Type 0
-IsChunk (chunk.Part mesh k) = (k ≤ 1000000) × (4096 * k ≤ length (arc_value mesh).cells)
+IsChunk (chunk.Part mesh k) = (k ≤ most_points) × (4096 * k ≤ length (arc_value mesh).cells)
 IsChunk (chunk.Own list) = Unit {0}

@@ -4,6 +4,7 @@ use Rattle.mesh_base.specs.Place.{Place}
 use Rattle.mesh_base.specs.Mesh.{MeshView, Corners, AreWithin, AreAllDifferent}
 use Rattle.mesh_base.specs.Edit.{EditFits}
 use Rattle.mesh_base.specs.declared.edit.Edit.{Edit}
+use Rattle.mesh_base.specs.Limits.{most_cells, most_points}
 
 -- how many points there are, and the cells, of which some are absent
 pub record Topology : Type 0 where
@@ -24,7 +25,7 @@ Fits topology edit = (mesh : MeshView) × IsTopologyOf mesh topology × EditFits
 
 -- the limits, and each live cell has four different points of those that there are
 pub record IsTopology (points : ℕ) (cells : List (Option Corners)) : Type 0 where
-  pub few_points : points ≤ 1000000
-  pub few_cells : length cells ≤ 4000000
+  pub few_points : points ≤ most_points
+  pub few_cells : length cells ≤ most_cells
   pub within : AreWithin points cells
   pub different : AreAllDifferent cells

@@ -7,7 +7,7 @@ ghost use Rattle.topo.specs.Cells.{listed};
 
 use crate::chunks::{chunk_count, part_of};
 use crate::list::Cells;
-use mesh_base::{Cell, Mesh, NoMemory};
+use mesh_base::{Cell, MOST_CELLS, MOST_POINTS, Mesh, NoMemory};
 use std::alloc::Global;
 use std::marker::Model;
 use std::sync::Arc;
@@ -40,7 +40,7 @@ impl Model for CellChunk {
 impl CellChunk {
     /// Chunk k of these: a part of the mesh that they are shared with, or a copy.
     pub fn of(alloc: Global, cells: &Cells, k: usize) -> Result<Arc<CellChunk>, NoMemory>
-        requires few { k ≤ 1000000 }
+        requires few { k ≤ MOST_POINTS }
         requires within { 4096 * k ≤ length (listed cells.now) }
         ensures { IfOk result (λ chunk. arc_value chunk ≡ chunk_of (listed cells.now) k) }
     {
@@ -72,7 +72,7 @@ fn cell_chunk(
     cells: &Cells,
     k: usize,
 ) -> Result<Arc<CellChunk>, NoMemory>
-    requires few { k ≤ 1000000 }
+    requires few { k ≤ MOST_POINTS }
     requires within { 4096 * k ≤ length (listed cells.now) }
     requires kept { Each (Kept (λ j c. arc_value c ≡ chunk_of (listed cells.now) j)) kept.old.items }
     ensures kept { Each (Kept (λ j c. arc_value c ≡ chunk_of (listed cells.now) j)) kept.new.items }
@@ -96,7 +96,7 @@ pub fn cell_chunks(
     kept: &mut Vec<Option<Arc<CellChunk>>>,
     cells: &Cells,
 ) -> Result<Vec<Arc<CellChunk>>, NoMemory>
-    requires few { length (listed cells.now) ≤ 4000000 }
+    requires few { length (listed cells.now) ≤ MOST_CELLS }
     requires kept { Each (Kept (λ j c. arc_value c ≡ chunk_of (listed cells.now) j)) kept.old.items }
     ensures kept { Each (Kept (λ j c. arc_value c ≡ chunk_of (listed cells.now) j)) kept.new.items }
     ensures chunks { IfOk result (λ chunks. AreChunks arc_value (listed cells.now) chunks.items) }

@@ -14,7 +14,7 @@ use mesh_base::{Cell, Edit, NoMemory};
 use std::alloc::Global;
 use std::sync::Arc;
 
-/// The chunks of the last shape that are those of the topology still. None stands where an edit has changed something.
+/// The chunks that are those of the topology still. None stands where an edit has changed something since.
 #[derive(Drop)]
 pub struct KeptChunks {
     pub cells: Vec<Option<Arc<CellChunk>>>,

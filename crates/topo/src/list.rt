@@ -2,7 +2,7 @@
 ghost use Rattle.std.specs.Prelude.{◌≡◌, ◌+◌, ◌<◌, ◌≤◌, [], ◌∷◌, ◌++◌, Some, None, length, vec_len, vec_capacity, map, slice_set, IfOk, OnOk};
 ghost use Rattle.topo.specs.Cells.{listed, HasRoom};
 
-use mesh_base::{Cell, Mesh, NoMemory};
+use mesh_base::{Cell, MOST_CELLS, Mesh, NoMemory};
 use std::alloc::Global;
 use std::sync::Arc;
 
@@ -15,7 +15,7 @@ pub enum Cells {
 
 // A copy of these, with room for so many more.
 fn copied(alloc: Global, cells: &[Option<Cell>], more: usize) -> Result<Vec<Option<Cell>>, NoMemory>
-    requires few { length cells.now ≤ 4000000 }
+    requires few { length cells.now ≤ MOST_CELLS }
     requires little { more ≤ 4 }
     ensures cells { IfOk result (λ own. own.items ≡ cells.now) }
     ensures room { IfOk result (λ own. vec_len own + more ≤ vec_capacity own) }

@@ -5,7 +5,7 @@ ghost use Rattle.mesh_base.specs.Place.{Place};
 ghost use Rattle.topo.specs.Chunks.{chunk_of, AreChunks};
 
 use crate::chunks::{CHUNK, chunk_count, part_of};
-use mesh_base::{NoMemory, Point, PointList};
+use mesh_base::{MOST_POINTS, NoMemory, Point, PointList};
 use std::alloc::Global;
 use std::marker::Model;
 use std::sync::Arc;
@@ -44,7 +44,7 @@ impl Model for Positions {
 
     ghost view = { λ p. flat_map arc_value p.chunks.items };
 
-    ghost invariant = { λ p. (p.len ≤ 1000000) × (length (flat_map arc_value p.chunks.items) ≡ p.len) × AreChunks arc_value (flat_map arc_value p.chunks.items) p.chunks.items };
+    ghost invariant = { λ p. (p.len ≤ MOST_POINTS) × (length (flat_map arc_value p.chunks.items) ≡ p.len) × AreChunks arc_value (flat_map arc_value p.chunks.items) p.chunks.items };
 }
 
 // A chunk with these points: the old one, if it has them.
@@ -70,7 +70,7 @@ fn chunks_with(
     old: &[Arc<PlaceChunk>],
     points: &[Point],
 ) -> Result<Vec<Arc<PlaceChunk>>, NoMemory>
-    requires { length points.now ≤ 1000000 }
+    requires { length points.now ≤ MOST_POINTS }
     ensures { IfOk result (λ chunks. AreChunks arc_value points.now chunks.items) }
 {
     let count = chunk_count(points.len());
@@ -88,7 +88,7 @@ fn shared_with(
     old: &[Arc<PlaceChunk>],
     points: &[Point],
 ) -> Result<Arc<Positions>, NoMemory>
-    requires { length points.now ≤ 1000000 }
+    requires { length points.now ≤ MOST_POINTS }
     ensures { IfOk result (λ positions. arc_value positions ≡ points.now) }
 {
     let positions = Positions {
@@ -101,7 +101,7 @@ fn shared_with(
 impl Positions {
     /// The places in the list, of which there are at most 1,000,000. They are copied into chunks, and the list is let go.
     pub fn of(alloc: Global, points: PointList) -> Result<Arc<Positions>, NoMemory>
-        requires { length points ≤ 1000000 }
+        requires { length points ≤ MOST_POINTS }
         ensures { IfOk result (λ positions. arc_value positions ≡ points) }
     {
         Positions::copied(alloc, &points.into_items())
@@ -109,7 +109,7 @@ impl Positions {
 
     /// The places in a list that the caller keeps. They are copied into chunks.
     pub fn copied(alloc: Global, points: &[Point]) -> Result<Arc<Positions>, NoMemory>
-        requires { length points.now ≤ 1000000 }
+        requires { length points.now ≤ MOST_POINTS }
         ensures { IfOk result (λ positions. arc_value positions ≡ points.now) }
     {
         shared_with(alloc, &[], points)
@@ -122,7 +122,7 @@ impl Positions {
         old: &Positions,
         points: PointList,
     ) -> Result<Arc<Positions>, NoMemory>
-        requires { length points ≤ 1000000 }
+        requires { length points ≤ MOST_POINTS }
         ensures { IfOk result (λ positions. arc_value positions ≡ points) }
     {
         shared_with(alloc, &old.chunks, &points.into_items())
@@ -131,7 +131,7 @@ impl Positions {
     /// How many points there are.
     pub fn len(&self) -> u32
         ensures len { result ≡ length self.now }
-        ensures few { length self.now ≤ 1000000 }
+        ensures few { length self.now ≤ MOST_POINTS }
     {
         self.len
     }

@@ -14,7 +14,7 @@ use crate::kept::KeptChunks;
 use crate::rows::{RowChunk, row_chunks};
 use crate::surface::{SurfaceList, surface_list};
 use crate::tables::Tables;
-use mesh_base::{Cell, NoMemory};
+use mesh_base::{Cell, MOST_POINTS, NoMemory};
 use std::alloc::Global;
 use std::marker::Model;
 use std::sync::Arc;
@@ -75,7 +75,7 @@ impl Shape {
     /// How many points there are.
     pub fn points(&self) -> u32
         ensures points { result ≡ self.now.points }
-        ensures few { self.now.points ≤ 1000000 }
+        ensures few { self.now.points ≤ MOST_POINTS }
     {
         self.points
     }

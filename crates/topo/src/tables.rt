@@ -80,8 +80,8 @@ fn quarters_of(point: u32, cell: &Cell) -> [Cell; 4]
 impl Tables {
     /// The tables of these cells over points numbered from 0.
     pub fn build(alloc: Global, points: u32, cells: CellList) -> Result<Tables, NoMemory>
-        requires few_points { points ≤ 1000000 }
-        requires few_cells { length cells ≤ 4000000 }
+        requires few_points { points ≤ MOST_POINTS }
+        requires few_cells { length cells ≤ MOST_CELLS }
         requires within { AreWithin points cells }
         ensures { IfOk result (λ tables. tables ≡ record { points = points; cells = cells }) }
     {
@@ -98,8 +98,8 @@ impl Tables {
 
     // The tables of these cells, wherever they stand.
     fn of(alloc: Global, points: u32, cells: Cells) -> Result<Tables, NoMemory>
-        requires few_points { points ≤ 1000000 }
-        requires few_cells { length (listed cells) ≤ 4000000 }
+        requires few_points { points ≤ MOST_POINTS }
+        requires few_cells { length (listed cells) ≤ MOST_CELLS }
         requires within { AreWithin points (listed cells) }
         ensures { IfOk result (λ tables. tables ≡ record { points = points; cells = listed cells }) }
     {
@@ -117,7 +117,7 @@ impl Tables {
     /// How many points there are.
     pub fn points(&self) -> u32
         ensures points { result ≡ self.now.points }
-        ensures few { self.now.points ≤ 1000000 }
+        ensures few { self.now.points ≤ MOST_POINTS }
     {
         self.points
     }
@@ -215,7 +215,7 @@ impl Tables {
 
     // Whether one more point is allowed.
     fn has_point_room(&self) -> bool
-        ensures { IsTrue result ↔ (self.now.points < 1000000) }
+        ensures { IsTrue result ↔ (self.now.points < MOST_POINTS) }
     {
         (self.points as usize) < MOST_POINTS
     }
@@ -230,7 +230,7 @@ impl Tables {
 
     // One point more, which no cell has.
     fn push_point(&mut self, alloc: Global) -> Result<(), NoMemory>
-        requires { self.old.points < 1000000 }
+        requires { self.old.points < MOST_POINTS }
         ensures points { OnOk result (self.new.points ≡ self.old.points + 1) }
         ensures cells { OnOk result (self.new.cells ≡ self.old.cells) }
         ensures err { OnErr result (self.new ≡ self.old) }
@@ -246,7 +246,7 @@ impl Tables {
 
     // One cell more, at the end of the list.
     fn push_cell(&mut self, alloc: Global, cell: Cell) -> Result<(), NoMemory>
-        requires few { length self.old.cells < 4000000 }
+        requires few { length self.old.cells < MOST_CELLS }
         requires within { IsWithin self.old.points cell }
         ensures points { self.new.points ≡ self.old.points }
         ensures cells { OnOk result (self.new.cells ≡ self.old.cells ++ Some cell ∷ []) }
@@ -281,7 +281,7 @@ impl Tables {
     // Cell i, which is live, becomes absent, and four cells come that have a new point in place of one of its corners.
     fn split(&mut self, alloc: Global, i: u32) -> Result<(), NoMemory>
         requires live { IsSome (cell_at self.old.cells i) }
-        requires few_points { self.old.points < 1000000 }
+        requires few_points { self.old.points < MOST_POINTS }
         requires few_cells { length self.old.cells ≤ 3999996 }
         ensures points { OnOk result (self.new.points ≡ self.old.points + 1) }
         ensures cells { OnOk result (IfSome (cell_at self.old.cells i) (λ c. self.new.cells ≡ split_cells self.old.cells self.old.points i c)) }

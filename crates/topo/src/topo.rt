@@ -9,7 +9,7 @@ ghost use Rattle.topo.specs.Topology.{IsTopologyOf, IsTopology, Fits};
 use crate::kept::{KeptChunks, forget_cells, forget_rows};
 use crate::shape::Shape;
 use crate::tables::Tables;
-use mesh_base::{Cell, CellList, Edit, Mesh, NoMemory};
+use mesh_base::{Cell, CellList, Edit, MOST_CELLS, MOST_POINTS, Mesh, NoMemory};
 use std::alloc::Global;
 use std::marker::Model;
 use std::sync::Arc;
@@ -47,8 +47,8 @@ impl Topo {
     ///
     /// It passes over the cells and over the points, and looks each face up once.
     pub fn build(alloc: Global, points: u32, cells: CellList) -> Result<Topo, NoMemory>
-        requires few_points { points ≤ 1000000 }
-        requires few_cells { length cells ≤ 4000000 }
+        requires few_points { points ≤ MOST_POINTS }
+        requires few_cells { length cells ≤ MOST_CELLS }
         requires within { AreWithin points cells }
         ensures { IfOk result (λ topo. topo ≡ record { points = points; cells = cells }) }
     {
@@ -79,7 +79,7 @@ impl Topo {
     /// How many points there are.
     pub fn points(&self) -> u32
         ensures points { result ≡ self.now.points }
-        ensures few { self.now.points ≤ 1000000 }
+        ensures few { self.now.points ≤ MOST_POINTS }
     {
         self.tables.points()
     }

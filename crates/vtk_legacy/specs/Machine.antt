@@ -18,6 +18,7 @@ use Rattle.vtk_legacy.specs.Words.{word_is}
 use Rattle.vtk_legacy.specs.Outcome.{IsFault}
 use Rattle.vtk_legacy.specs.MeshText.{Fault, fault, ◌>>=◌, token, expect, expected, count, count_taken, most_count, numeric, numeric_taken, coordinate, coordinate_taken, skip, places, arrays, after_blank_line, metadata, blocks, version, title, format, format_taken, indices, indexed, counted_rows, head_taken, offsets, offset_taken, numbers_taken, count_again, mesh_of, ends}
 use Rattle.vtk_legacy.specs.Kept.{Parts, with_form, with_number, with_points, with_sizes, with_rows, with_cells, with_corner, with_last, with_filled, kept, empty_row, offset_sizes, put_from, begin_from, filling_after, got_after, first_row, typed_kept, types_left, with_first_kept, without_first}
+use Rattle.mesh_base.specs.Limits.{most_cells, most_points}
 
 -- ---- blocks
 
@@ -136,7 +137,7 @@ unfoldable pub in_cell_size : ℕ → Parts → Left → Outcome
 in_cell_size m got l = token l >>= cell_size_taken m got
 
 unfoldable pub in_cell_count : Parts → Left → Outcome
-in_cell_count got l = count 4000000 l >>= λ m. in_cell_size m.0 got m.1
+in_cell_count got l = count most_cells l >>= λ m. in_cell_size m.0 got m.1
 
 abbrev pub in_form : CellForm → Parts → Left → Outcome
 in_form form.Counts got l = in_cell_count got l
@@ -161,7 +162,7 @@ unfoldable pub in_point_type : ℕ → Parts → Left → Outcome
 in_point_type n got l = numeric kinds.Keyword l >>= in_places n got
 
 unfoldable pub in_point_count : Parts → Left → Outcome
-in_point_count got l = count 1000000 l >>= λ n. in_point_type n.0 (with_number n.0 got) n.1
+in_point_count got l = count most_points l >>= λ n. in_point_type n.0 (with_number n.0 got) n.1
 
 unfoldable pub in_points : Parts → Left → Outcome
 in_points got l = expect (codes "points") kinds.Keyword l >>= in_point_count got
@@ -296,12 +297,12 @@ taking (stage.Between s) got t = taking_between s got t
 taking (stage.Within s b) got t = taking_block b t >>= in_section s got
 taking (stage.MetadataLine s) got t = Ok (mesh_of got.points got.cells)
 taking (stage.MetadataLines s) got t = Ok (mesh_of got.points got.cells)
-taking stage.PointCount got t = count_taken 1000000 t >>= λ n. in_point_type n.0 (with_number n.0 got) n.1
+taking stage.PointCount got t = count_taken most_points t >>= λ n. in_point_type n.0 (with_number n.0 got) n.1
 taking (stage.PointType n) got t = numeric_taken kinds.Keyword t >>= in_places n got
 taking (stage.PointX more) got t = coordinate_taken t >>= λ x. in_y more x.0 got x.1
 taking (stage.PointY more x) got t = coordinate_taken t >>= λ y. in_z more x y.0 got y.1
 taking (stage.PointZ more x y) got t = coordinate_taken t >>= λ z. in_places more (with_points ((x, y, z.0) ∷ []) got) z.1
-taking stage.CellCount got t = count_taken 4000000 t >>= λ m. in_cell_size m.0 got m.1
+taking stage.CellCount got t = count_taken most_cells t >>= λ m. in_cell_size m.0 got m.1
 taking (stage.CellSize m) got t = cell_size_taken m got t
 taking (stage.CellHead more room place) got t = taking_head more room place got t
 taking (stage.CellPoint row more cells room place) got t = taking_cell_point row more cells room place got t

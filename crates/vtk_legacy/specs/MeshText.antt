@@ -17,6 +17,7 @@ use Rattle.vtk_legacy.specs.declared.gathered.CellForm.TheVariants as form
 use Rattle.vtk_legacy.specs.Words.{word_is}
 use Rattle.vtk_legacy.specs.Version.{has_magic, behind_magic, version_form}
 pub use Rattle.vtk_legacy.specs.Readings.{Fault, fault, ◌>>=◌, Read, with_first, or_truncated, token, expected, expect, counted, count_taken, count, most_count, placed, coordinate_taken, coordinate, numeric_taken, numeric}
+use Rattle.mesh_base.specs.Limits.{most_cells, most_points}
 
 -- ---- blocks to pass over: any number of FIELD and METADATA
 
@@ -146,7 +147,7 @@ abbrev pub points : Left → Read (List Place)
 points l = do
   word ← blocks l
   after ← expect (codes "points") kinds.Keyword word
-  n ← count 1000000 after
+  n ← count most_points after
   type ← numeric kinds.Keyword n.1
   places n.0 type
 
@@ -193,7 +194,7 @@ counted_rows n (suc m) room place l = do
 -- CELLS m size, in versions 1 to 4, and the cells
 abbrev pub counted_cells : ℕ → Left → Read (List Row)
 counted_cells n l = do
-  m ← count 4000000 l
+  m ← count most_cells l
   t ← token m.1
   size ← count_taken most_count t
   counted_rows n m.0 size.0 t.0.place size.1
