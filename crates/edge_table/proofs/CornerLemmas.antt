@@ -1,13 +1,13 @@
 -- each pair of a live cell is counted at one corner
-use Rattle.std.proofs.Common.{◌≡◌, ◌≢◌, ℕ, ◌+◌, ◌<◌, ◌≤◌, inl, inr, Bool, true, false, cond, eqb, ltb, not, ◌&&◌, ◌||◌, List, [], ◌∷◌, length, get_or, set, sum_by, Option, Some, None, IfSome, refl, sym, ap, subst, ◌∙◌, arith}
+use Rattle.std.proofs.Common.{◌≡◌, ◌≢◌, ℕ, ◌+◌, ◌<◌, ◌≤◌, inl, inr, Bool, true, false, cond, eqb, ltb, not, ◌&&◌, List, [], ◌∷◌, length, get_or, set, sum_by, Option, Some, None, IfSome, refl, sym, ap, subst, ◌∙◌, arith}
 use Rattle.std.proofs.lemmas.Bool.Decides.{nat_tests}
-use Rattle.std.proofs.lemmas.Bool.{false≢true}
 use Rattle.std.proofs.lemmas.List.{get_or_past}
 use Rattle.std.proofs.lemmas.List.Elements.{All-head, All-tail}
 use Rattle.std.proofs.lemmas.List.Filters.{sum_by-filter_both}
 use Rattle.std.proofs.lemmas.List.Sums.{sum_by-append, sum_by-cons}
-use Rattle.mesh_base.specs.Mesh.{Corners, IsWithin, AreWithin, AreDifferent, AreAllDifferent, has_corner, is_vertex, live}
+use Rattle.mesh_base.specs.Mesh.{Corners, AreWithin, AreDifferent, AreAllDifferent, has_corner, is_vertex, live}
 use Rattle.mesh_base.proofs.Corners.{eq_or}
+use Rattle.mesh_base.proofs.Within.{vertex_within}
 use Rattle.corner_ranges.specs.Ranges.{corners_of_cell, all_corners, range_of, corners_before}
 use Rattle.edge_table.specs.Pairs.{RowView, number_at, pair_count, pair_share, cell_pairs}
 use Rattle.edge_table.specs.Rows.{shown}
@@ -100,18 +100,6 @@ pub pair_of-own : (v w n : ℕ) → pair_of v w n v w ≡ n
 pair_of-own v w n = ap (λ t. cond (t && eqb w w) n 0) (same v) ∙ ap (λ t. cond t n 0) (same w)
 
 -- past the points there are no pairs
-corner_within : (n : ℕ) (c : Corners) (v : ℕ) → IsWithin n c → has_corner c v ≡ true → v < n
-corner_within n c v w h = grind (arith, nat_tests)
-
-vertex_within : (n : ℕ) (cells : List (Option Corners)) (v : ℕ) → AreWithin n cells → is_vertex cells v ≡ true → v < n
-vertex_within n [] v a h = absurd (false≢true h)
-vertex_within n (None ∷ cells) v a h = vertex_within n cells v (All-tail (λ cell. IfSome cell (IsWithin n)) None cells a) h
-vertex_within n (Some c ∷ cells) v a h = by (has_corner c v) refl h (vertex_within n cells v (All-tail (λ cell. IfSome cell (IsWithin n)) (Some c) cells a))
-  where
-    by : (b : Bool) → has_corner c v ≡ b → (b || is_vertex cells v) ≡ true → (is_vertex cells v ≡ true → v < n) → v < n
-    by true q h rest = corner_within n c v (All-head (λ cell. IfSome cell (IsWithin n)) (Some c) cells a) q
-    by false q h rest = rest h
-
 pub none_past : (n : ℕ) (cells : List (Option Corners)) (v w : ℕ) → AreWithin n cells → n ≤ v → cell_pairs cells v w ≡ 0
 none_past n cells v w a le = cell_pairs-free cells v w (by (is_vertex cells v) refl)
   where

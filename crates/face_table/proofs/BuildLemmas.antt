@@ -1,16 +1,16 @@
 -- lemmas on the table of a list of cells
-use Rattle.std.proofs.Common.{◌≡◌, ℕ, ◌*◌, ◌<◌, ◌≤◌, Bool, true, false, ◌||◌, ltb, IfSome, refl, List, [], ◌∷◌, length, get_or, flat_map, filter, inl, inr, Option, Some, None, Vec, vec_capacity, sym, subst, arith, length-append}
+use Rattle.std.proofs.Common.{◌≡◌, ℕ, ◌*◌, ◌<◌, ◌≤◌, true, ltb, List, [], ◌∷◌, length, get_or, flat_map, filter, inl, inr, Option, Some, None, Vec, vec_capacity, sym, subst, arith, length-append}
 use Rattle.std.specs.declared.alloc.Global.{Global}
 use Rattle.std.specs.List.{range_with_len}
 use Rattle.std.proofs.lemmas.Bool.Decides.{nat_tests}
-use Rattle.std.proofs.lemmas.List.Elements.{All-head, All-tail}
-use Rattle.std.proofs.lemmas.Bool.{cases_lt, false≢true}
+use Rattle.std.proofs.lemmas.Bool.{cases_lt}
 use Rattle.std.proofs.lemmas.List.{get_or_past}
 use Rattle.std.proofs.lemmas.List.Sums.{count_by-le-length}
-use Rattle.mesh_base.specs.Mesh.{Face, Corners, IsWithin, AreWithin, has_corner, is_vertex, is_on, live, faces, face_eq, face_count}
+use Rattle.mesh_base.specs.Mesh.{Face, Corners, AreWithin, is_on, live, faces, face_eq, face_count}
 use Rattle.mesh_base.specs.Numbers.{IsListOf}
 use Rattle.mesh_base.proofs.FaceLaws.{face_vertex}
 use Rattle.mesh_base.proofs.Ascending.{IsListOf-filter_range}
+use Rattle.mesh_base.proofs.Within.{vertex_within}
 use Rattle.face_table.specs.Tally.{IsBelow, Matches}
 
 -- a cell has four faces
@@ -39,19 +39,6 @@ listed_all singles items e w =
   where
     within : 0 < get_or singles w 0 → w < length singles
     within p = elim (cases_lt w (length singles)) [ inl l ↦ l | inr g ↦ (let z = get_or_past singles w 0 g in absurd (omega arith)) ]
-
--- the points of cells are below their number
-corner_within : (n : ℕ) (c : Corners) (v : ℕ) → IsWithin n c → has_corner c v ≡ true → v < n
-corner_within n c v w h = grind (arith, nat_tests)
-
-vertex_within : (n : ℕ) (cells : List (Option Corners)) (v : ℕ) → AreWithin n cells → is_vertex cells v ≡ true → v < n
-vertex_within n [] v a h = absurd (false≢true h)
-vertex_within n (None ∷ cells) v a h = vertex_within n cells v (All-tail (λ cell. IfSome cell (IsWithin n)) None cells a) h
-vertex_within n (Some c ∷ cells) v a h = by (has_corner c v) refl h (vertex_within n cells v (All-tail (λ cell. IfSome cell (IsWithin n)) (Some c) cells a))
-  where
-    by : (b : Bool) → has_corner c v ≡ b → (b || is_vertex cells v) ≡ true → (is_vertex cells v ≡ true → v < n) → v < n
-    by true q h rest = corner_within n c v (All-head (λ cell. IfSome cell (IsWithin n)) (Some c) cells a) q
-    by false q h rest = rest h
 
 pub face_within : (n : ℕ) (cells : List (Option Corners)) (f : Face) (v : ℕ) → AreWithin n cells → 0 < face_count cells f → is_on f v ≡ true → v < n
 face_within n cells f v a lt on = vertex_within n cells v a (face_vertex cells f v on lt)

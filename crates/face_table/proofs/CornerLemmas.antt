@@ -12,7 +12,7 @@ use Rattle.face_table.specs.Corner.{least_share, corner_share}
 use Rattle.face_table.proofs.Sums.{face_same}
 
 -- three different numbers have one least
-swapped : (a b c : ℕ) → face_of b a c ≡ face_of a b c
+pub swapped : (a b c : ℕ) → face_of b a c ≡ face_of a b c
 swapped a b c = λ i. (p i, q i, r i)
   where
     p : min b (min a c) ≡ min a (min b c)
@@ -24,7 +24,7 @@ swapped a b c = λ i. (p i, q i, r i)
     r : max b (max a c) ≡ max a (max b c)
     r = grind arith
 
-ended : (a b c : ℕ) → face_of a c b ≡ face_of a b c
+pub ended : (a b c : ℕ) → face_of a c b ≡ face_of a b c
 ended a b c = λ i. (p i, q i, r i)
   where
     p : min a (min c b) ≡ min a (min b c)

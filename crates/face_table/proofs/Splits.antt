@@ -1,40 +1,16 @@
 -- the faces of a cell that is split round a new point
-use Rattle.std.proofs.Common.{◌≡◌, ◌≢◌, ℕ, ◌+◌, ◌≤◌, min, max, Bool, true, false, cond, inl, inr, List, get_or, count_by, refl, sym, ap, subst, ◌∙◌, arith, IfSome, All}
+use Rattle.std.proofs.Common.{◌≡◌, ◌≢◌, ℕ, ◌+◌, ◌≤◌, Bool, true, false, cond, inl, inr, List, get_or, count_by, refl, sym, ap, subst, ◌∙◌, arith, IfSome, All}
 use Rattle.std.proofs.lemmas.Bool.{cases_lt, false≢true}
 use Rattle.std.proofs.lemmas.Bool.Decides.{nat_tests}
 use Rattle.std.proofs.lemmas.List.Elements.{All-from_recursion}
-use Rattle.mesh_base.specs.Mesh.{Face, Corners, IsWithin, is_on, has_corner, face_of, middle, faces, face_eq, face_count}
+use Rattle.mesh_base.specs.Mesh.{Face, Corners, IsWithin, is_on, has_corner, face_of, faces, face_eq, face_count}
 use Rattle.mesh_base.specs.Edit.{quarters}
 use Rattle.face_table.specs.Tally.{Counts, tally_in, AreFacesBelow}
 use Rattle.face_table.proofs.BuildLemmas.{face_within}
+use Rattle.face_table.proofs.CornerLemmas.{swapped, ended}
 use Rattle.mesh_base.proofs.Corners.{IsArray, in_array}
 use Rattle.face_table.proofs.Sums.{face_same, off_face, no_corner}
 use Rattle.face_table.proofs.Within.{first_on, second_on, cell_within}
-
--- the order of three numbers makes no difference
-swapped : (a b c : ℕ) → face_of b a c ≡ face_of a b c
-swapped a b c = λ i. (p i, q i, r i)
-  where
-    p : min b (min a c) ≡ min a (min b c)
-    p = grind arith
-
-    q : middle b a c ≡ middle a b c
-    q = grind arith
-
-    r : max b (max a c) ≡ max a (max b c)
-    r = grind arith
-
-ended : (a b c : ℕ) → face_of a c b ≡ face_of a b c
-ended a b c = λ i. (p i, q i, r i)
-  where
-    p : min a (min c b) ≡ min a (min b c)
-    p = grind arith
-
-    q : middle a c b ≡ middle a b c
-    q = grind arith
-
-    r : max a (max c b) ≡ max a (max b c)
-    r = grind arith
 
 abbrev pub two : Bool → ℕ
 two b = cond b 2 0

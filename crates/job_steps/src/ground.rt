@@ -4,7 +4,7 @@ ghost use Rattle.std.specs.Arc.{arc_value};
 ghost use Rattle.mesh_base.specs.Place.{IsPlace};
 ghost use Rattle.mesh_base.specs.Kernel.{moved};
 ghost use Rattle.topo.specs.Topology.{mesh_at};
-ghost use Rattle.move_kernels.specs.Motions.{IsKernel};
+ghost use Rattle.move_kernels.specs.Motions.{HasDivisor};
 ghost use Rattle.run_script.specs.Jobs.{IsJob, all_edited, plan_at, step_at, steps};
 ghost use Rattle.step_view.specs.StepView.{IsStepOf};
 
@@ -68,7 +68,7 @@ pub fn edited(
     ensures mesh { IfOk result (λ ground. mesh_at (arc_value ground.places) topo.new ≡ all_edited (step_at job.now k) (plan_at job.now k).edits) }
     ensures kernel { IfOk result (λ ground. ground.kernel ≡ (plan_at job.now k).kernel) }
     ensures step { IfOk result (λ ground. ground.step ≡ k + 1) }
-    ensures fits { IfOk result (λ ground. IsKernel ground.kernel) }
+    ensures fits { IfOk result (λ ground. HasDivisor ground.kernel) }
 {
     let plan = job.plan(k);
     let places = edited_places(alloc, job, k, topo, places)?;
@@ -124,7 +124,7 @@ pub fn places_alone(
 
 /// Where the motion puts the points, found by the thread that asks.
 pub fn moved_alone(alloc: Global, ground: &Ground) -> Result<Arc<Positions>, NoMemory>
-    requires { IsKernel ground.now.kernel }
+    requires { HasDivisor ground.now.kernel }
     ensures { IfOk result (λ places. arc_value places ≡ moved (mesh_at (arc_value ground.now.places) (arc_value ground.now.shape)) ground.now.kernel ground.now.step) }
 {
     places_after!(
@@ -146,7 +146,7 @@ pub fn moved_in_threads<R: Threads + Sync>(
     alloc: Global,
     ground: &Ground,
 ) -> Result<Arc<Positions>, NoMemory>
-    requires { IsKernel ground.now.kernel }
+    requires { HasDivisor ground.now.kernel }
     ensures { IfOk result (λ places. arc_value places ≡ moved (mesh_at (arc_value ground.now.places) (arc_value ground.now.shape)) ground.now.kernel ground.now.step) }
 {
     places_after!(

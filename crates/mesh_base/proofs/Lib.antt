@@ -2,6 +2,7 @@ pub mod CellLists
 pub mod Ascending
 pub mod Once
 pub mod Corners
+pub mod Within
 pub mod AnswerLaws
 pub mod FaceLaws
 pub mod JoinedLaws

@@ -6,13 +6,13 @@ use Rattle.mesh_base.specs.Answer.{IsAnswerBy, answer_by, route, answer, probed}
 use Rattle.mesh_base.specs.Scan.{is_in, scan}
 use Rattle.mesh_base.specs.Parts.{IsCovered, joined_to}
 use Rattle.mesh_base.specs.Reads.{read_bound}
-use Rattle.mesh_base.specs.Samples.{Gives}
+use Rattle.mesh_base.specs.Samples.{IsWorked}
 use Rattle.mesh_base.specs.declared.answer.Route.{Route}
 use Rattle.mesh_base.proofs.JoinedLaws.{answer_is, joined_is}
 use Rattle.mesh_base.proofs.AnswerLaws.{from_probed}
 use Rattle.mesh_base.proofs.Ascending.{In-from_Contains, Contains-from_In, In-filter}
 
-pub gives : (mesh : MeshView) (area : Area) (r : Route) (vs : List ℕ) (reads : ℕ) → r ≡ route mesh area → answer_by mesh area r ≡ vs → answer mesh area ≡ vs → read_bound mesh area vs ≡ reads → Gives mesh area r vs reads
+pub gives : (mesh : MeshView) (area : Area) (r : Route) (vs : List ℕ) (reads : ℕ) → r ≡ route mesh area → answer_by mesh area r ≡ vs → answer mesh area ≡ vs → read_bound mesh area vs ≡ reads → IsWorked mesh area r vs reads
 gives mesh area r vs reads e list whole bound = ((e, subst (IsAnswerBy mesh area r) list (answer_is mesh area r)), whole, bound)
 
 -- where all that is inside is joined to the surface vertices inside, the box is covered

@@ -23,6 +23,10 @@ pub record Area : Type 0 where
 abbrev pub IsArea : Place → Place → Type 0
 IsArea lo hi = (lo.0 ≤ℤ hi.0) × (lo.1 ≤ℤ hi.1) × (lo.2 ≤ℤ hi.2)
 
+-- the same, as it is computed
+abbrev pub is_area : Place → Place → Bool
+is_area lo hi = int_le lo.0 hi.0 && (int_le lo.1 hi.1 && int_le lo.2 hi.2)
+
 -- c lies from low to high, both included
 abbrev pub is_between : ℤ → ℤ → ℤ → Bool
 is_between low high c = int_le low c && int_le c high

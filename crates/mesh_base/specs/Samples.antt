@@ -67,5 +67,5 @@ abbrev pub greatest_corner : Place
 greatest_corner = at (2 ^ 30) (2 ^ 30) (2 ^ 30)
 
 -- the box has this route, this answer and this bound on its reads
-abbrev pub Gives : MeshView → Area → Route → List ℕ → ℕ → Type 0
-Gives mesh area r vs reads = IsAnswer mesh area r vs × (answer mesh area ≡ vs) × (read_bound mesh area vs ≡ reads)
+abbrev pub IsWorked : MeshView → Area → Route → List ℕ → ℕ → Type 0
+IsWorked mesh area r vs reads = IsAnswer mesh area r vs × (answer mesh area ≡ vs) × (read_bound mesh area vs ≡ reads)

@@ -8,13 +8,13 @@ use Rattle.mesh_base.specs.declared.edit.Kernel.{Kernel}
 use Rattle.mesh_base.specs.declared.edit.Kernel.TheVariants.{Stay, Shift, Pull, Shake, Relax, Turn}
 
 -- a pull divides by a positive number
-abbrev pub IsKernel : Kernel → Type 0
-IsKernel (Pull to num den) = pos 0 <ℤ den
-IsKernel Stay = Unit {0}
-IsKernel (Shift dx dy dz) = Unit {0}
-IsKernel (Shake seed amp) = Unit {0}
-IsKernel Relax = Unit {0}
-IsKernel (Turn axis) = Unit {0}
+abbrev pub HasDivisor : Kernel → Type 0
+HasDivisor (Pull to num den) = pos 0 <ℤ den
+HasDivisor Stay = Unit {0}
+HasDivisor (Shift dx dy dz) = Unit {0}
+HasDivisor (Shake seed amp) = Unit {0}
+HasDivisor Relax = Unit {0}
+HasDivisor (Turn axis) = Unit {0}
 
 -- the places that a function gives to the points, in the order of their numbers
 abbrev pub listed : ℕ → (ℕ → Place) → List Place

@@ -2,7 +2,7 @@
 ghost use Rattle.std.specs.Prelude.{◌≡◌, length, IfOk};
 ghost use Rattle.mesh_base.specs.Kernel.{moved};
 ghost use Rattle.topo.specs.Topology.{mesh_at};
-ghost use Rattle.move_kernels.specs.Motions.{IsKernel};
+ghost use Rattle.move_kernels.specs.Motions.{HasDivisor};
 
 use crate::kernels::{Pulled, Relaxed, Shaken, Shifted, Still, Turned};
 use crate::motion::{in_parallel, one_by_one};
@@ -56,7 +56,7 @@ pub fn moved(
     shape: &Shape,
 ) -> Result<PointList, NoMemory>
     requires points { length old.now ≡ shape.now.points }
-    requires kernel { IsKernel kernel.now }
+    requires kernel { HasDivisor kernel.now }
     ensures { IfOk result (λ places. places ≡ moved (mesh_at old.now shape.now) kernel.now k) }
 {
     let count = old.len();
@@ -73,7 +73,7 @@ pub fn moved_par<R: Threads + Sync>(
     shape: &Shape,
 ) -> Result<PointList, NoMemory>
     requires points { length old.now ≡ shape.now.points }
-    requires kernel { IsKernel kernel.now }
+    requires kernel { HasDivisor kernel.now }
     ensures { IfOk result (λ places. places ≡ moved (mesh_at old.now shape.now) kernel.now k) }
 {
     let count = old.len();

@@ -7,7 +7,7 @@ ghost use Rattle.oct_text.specs.Line.{without_cr};
 pub fn is_blank_byte(b: u8) -> bool
     ensures { result ≡ is_blank b }
 {
-    b == 32 || (b > 8 && b < 14)
+    b == b' ' || (b > 8 && b < 14)
 }
 
 /// How many blanks stand at the front.
@@ -62,7 +62,7 @@ pub fn chomped(line: &[u8]) -> &[u8]
     ensures { result.now ≡ without_cr line.now }
 {
     match line {
-        [front @ .., 13] => front,
+        [front @ .., b'\r'] => front,
         _ => line,
     }
 }

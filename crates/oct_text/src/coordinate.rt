@@ -40,7 +40,7 @@ fn sized(front: &[u8], back: &[u8], up: u32, down: u32) -> Result<u64, NumFault>
 fn is_e_byte(b: u8) -> bool
     ensures { result ≡ is_e b }
 {
-    b == 101 || b == 69
+    b == b'e' || b == b'E'
 }
 
 /// How many digits stand at the front.
@@ -106,7 +106,7 @@ fn capped(digits: &[u8]) -> u32
 {
     let mut value: u32 = 0;
     for b in digits {
-        value = (value * 10 + u32::from(*b - 48)).min(1000);
+        value = (value * 10 + u32::from(*b - b'0')).min(1000);
     }
     value
 }

@@ -27,7 +27,7 @@ fn with_digit(value: u64, b: u8) -> u64
     if value > LIMIT {
         value
     } else {
-        value * 10 + u64::from(b - 48)
+        value * 10 + u64::from(b - b'0')
     }
 }
 

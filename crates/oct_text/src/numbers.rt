@@ -29,7 +29,7 @@ pub enum CountFault {
 pub fn is_digit_byte(b: u8) -> bool
     ensures { result ≡ is_digit b }
 {
-    b >= 48 && b <= 57
+    b >= b'0' && b <= b'9'
 }
 
 pub fn only_digits(text: &[u8]) -> bool
@@ -44,7 +44,7 @@ fn with_digit(value: u64, b: u8) -> Option<u64>
     ensures { SomeIff result (value * 10 + digit_value b < 2 ^ 64) (value * 10 + digit_value b) }
 {
     match value.checked_mul(10) {
-        Some(tens) => tens.checked_add(u64::from(b - 48)),
+        Some(tens) => tens.checked_add(u64::from(b - b'0')),
         None => None,
     }
 }

@@ -37,7 +37,7 @@ impl Scan {
             return Scan {
                 value: self.value,
                 left: 0,
-                clean: self.clean && b == 48,
+                clean: self.clean && b == b'0',
             };
         }
         if self.value > LIMIT {
@@ -48,7 +48,7 @@ impl Scan {
             };
         }
         Scan {
-            value: self.value * 10 + u64::from(b - 48),
+            value: self.value * 10 + u64::from(b - b'0'),
             left: self.left - 1,
             clean: self.clean,
         }

@@ -25,7 +25,7 @@ pub fn short_digits(text: &[u8]) -> ShortRun
         if !is_digit_byte(*b) {
             return ShortRun { len: i, value };
         }
-        value = value * 10 + u64::from(*b - 48);
+        value = value * 10 + u64::from(*b - b'0');
     }
     ShortRun {
         len: text.len(),

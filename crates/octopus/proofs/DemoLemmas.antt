@@ -12,7 +12,7 @@ use Rattle.mesh_base.specs.declared.answer.Answer.{Answer}
 use Rattle.run_script.specs.declared.script.Plan.{Plan}
 use Rattle.run_script.specs.declared.script.Item.{Item}
 use Rattle.run_script.specs.Faults.{Fault}
-use Rattle.run_script.specs.Scripts.{ScriptView, IsEdit, IsItem, IsPlan, IsSession, IsScript, edit_count, box_count}
+use Rattle.run_script.specs.Scripts.{ScriptView, IsEdit, IsItem, IsPlan, IsSession, IsScript, edit_count, ask_count}
 use Rattle.run_script.specs.declared.job.SessionTurn.{SessionTurn}
 use Rattle.run_script.specs.Jobs.{JobView, turns, steps, step_at, checked, edits_fault, wait_fault}
 use Rattle.step_registry.specs.declared.event.Event.{Event}
@@ -56,7 +56,7 @@ script-fits n seed small_side small_seed =
     let plan = plan-fits seed small_seed in
     let session = session-fits n small_side in
     let no_edits : edit_count (replicate demo_steps (demo_plan seed)) ≡ 0 = refl in
-    let boxes : box_count (replicate demo_sessions (demo_items n)) ≡ 12 = refl in
+    let boxes : ask_count (replicate demo_sessions (demo_items n)) ≡ 12 = refl in
     record {
       version = inl refl;
       few_steps = omega arith;

@@ -1,10 +1,10 @@
 -- The command that the words of a command line spell.
-use Rattle.std.specs.Prelude.{ℕ, ◌^◌, Bool, ◌&&◌, nat_le, if◌then◌else◌, List, [], ◌∷◌, Option, Some, None, ℤ, pos, neg_ℤ, int_le, codes}
+use Rattle.std.specs.Prelude.{ℕ, ◌^◌, nat_le, if◌then◌else◌, List, [], ◌∷◌, Option, Some, None, ℤ, pos, neg_ℤ, codes}
 use Rattle.std.specs.Option.{option_map}
 use Rattle.std.specs.Result.{result_ok}
 use Rattle.std.specs.Str.{bytes_eq}
 use Rattle.oct_text.specs.Numbers.{signed_of, count_of}
-use Rattle.mesh_base.specs.Place.{Place, Area}
+use Rattle.mesh_base.specs.Place.{Place, Area, is_area}
 use Rattle.cell_box.specs.declared.how.How.{How}
 use Rattle.cell_box.specs.declared.how.How.TheVariants.{Whole, Touching}
 use Rattle.octopus.specs.declared.words.Command.{Command}
@@ -15,8 +15,8 @@ use Rattle.sample_meshes.specs.Block.{most_side}
 use Rattle.octopus.specs.Rings.{most_hops}
 
 -- the coordinate that a word spells: a signed number from -2^30 to 2^30
-abbrev pub coordinate_of : List ℕ → Option ℤ
-coordinate_of word = result_ok (signed_of word (neg_ℤ (pos (2 ^ 30))) (pos (2 ^ 30)))
+abbrev pub bound_of : List ℕ → Option ℤ
+bound_of word = result_ok (signed_of word (neg_ℤ (pos (2 ^ 30))) (pos (2 ^ 30)))
 
 -- the corner of three coordinates, if each is spelled well
 abbrev pub corner_from : Option ℤ → Option ℤ → Option ℤ → Option Place
@@ -26,15 +26,11 @@ corner_from (Some x) None z = None
 corner_from None y z = None
 
 abbrev pub corner_of : List ℕ → List ℕ → List ℕ → Option Place
-corner_of x y z = corner_from (coordinate_of x) (coordinate_of y) (coordinate_of z)
-
--- no coordinate of the low corner is above that of the high one
-abbrev pub is_box : Place → Place → Bool
-is_box lo hi = int_le lo.0 hi.0 && int_le lo.1 hi.1 && int_le lo.2 hi.2
+corner_of x y z = corner_from (bound_of x) (bound_of y) (bound_of z)
 
 -- the box between two corners, if there is one
 abbrev pub area_from : Option Place → Option Place → Option Area
-area_from (Some lo) (Some hi) = if is_box lo hi then Some (record { lo = lo; hi = hi }) else None
+area_from (Some lo) (Some hi) = if is_area lo hi then Some (record { lo = lo; hi = hi }) else None
 area_from (Some lo) None = None
 area_from None hi = None
 
@@ -100,9 +96,9 @@ abbrev pub most_step : ℕ
 most_step = 10000
 
 -- the words behind `step`: MESH SCRIPT K, K a count of at most 10,000
-abbrev pub step_of : List (List ℕ) → Option (Command (List ℕ))
-step_of (mesh ∷ script ∷ k ∷ []) = option_map (commands.Step mesh script) (result_ok (count_of k most_step))
-step_of _ = None
+abbrev pub step_command : List (List ℕ) → Option (Command (List ℕ))
+step_command (mesh ∷ script ∷ k ∷ []) = option_map (commands.Step mesh script) (result_ok (count_of k most_step))
+step_command _ = None
 
 -- the word behind `upgrade`: SCRIPT
 abbrev pub upgrade_of : List (List ℕ) → Option (Command (List ℕ))
@@ -115,7 +111,7 @@ named name rest =
     if bytes_eq name (codes "scan") then query_of commands.Scan rest
     else if bytes_eq name (codes "surface") then surface_of rest
     else if bytes_eq name (codes "gen") then gen_of rest
-    else if bytes_eq name (codes "step") then step_of rest
+    else if bytes_eq name (codes "step") then step_command rest
     else if bytes_eq name (codes "upgrade") then upgrade_of rest
     else if bytes_eq name (codes "box") then query_of commands.Box rest
     else if bytes_eq name (codes "cells") then cells_of rest

@@ -4,7 +4,7 @@ ghost use Rattle.mesh_base.specs.Place.{IsCoordinate};
 ghost use Rattle.std.specs.Option.{option_map};
 ghost use Rattle.std.specs.String.{string_bytes};
 ghost use Rattle.octopus.specs.declared.words.Command.TheVariants.{Scan, Box};
-ghost use Rattle.octopus.specs.Words.{coordinate_of, corner_of, area_from, query_of, how_of, cells_on, cells_of, rings_on, rings_of, surface_of, side_of, gen_of, step_of, upgrade_of, command_of, named_as, run_of, demo_of, watch_of, played_of, played_as};
+ghost use Rattle.octopus.specs.Words.{bound_of, corner_of, area_from, query_of, how_of, cells_on, cells_of, rings_on, rings_of, surface_of, side_of, gen_of, step_command, upgrade_of, command_of, named_as, run_of, demo_of, watch_of, played_of, played_as};
 
 use crate::hops::{Hops, MOST_HOPS};
 use cell_box::How;
@@ -52,7 +52,7 @@ pub enum Played<N> {
 
 // The coordinate that a word spells.
 fn coordinate(word: &str) -> Option<i32>
-    ensures value { result ≡ coordinate_of word.now }
+    ensures value { result ≡ bound_of word.now }
     ensures range { IfSome result IsCoordinate }
 {
     let value = signed(word.as_bytes(), -(1 << 30), 1 << 30).ok()?;
@@ -193,7 +193,7 @@ fn read_gen(words: &[String]) -> Option<Command<&str>>
 
 // The words behind `step`.
 fn read_step(words: &[String]) -> Option<Command<&str>>
-    ensures { option_map (named_as (λ name. name.now)) result ≡ step_of (map string_bytes words.now) }
+    ensures { option_map (named_as (λ name. name.now)) result ≡ step_command (map string_bytes words.now) }
 {
     let [mesh, script, step] = words else {
         return None;

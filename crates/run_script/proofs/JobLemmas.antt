@@ -23,7 +23,7 @@ use Rattle.run_script.specs.declared.script.Plan.{Plan}
 use Rattle.run_script.specs.declared.script.Item.{Item}
 use Rattle.run_script.specs.declared.script.Item.TheVariants as item
 use Rattle.run_script.specs.Faults.{fault}
-use Rattle.run_script.specs.Scripts.{ScriptView, IsScript, IsSession, HoldsClose, is_ask, box_count}
+use Rattle.run_script.specs.Scripts.{ScriptView, IsScript, IsSession, HoldsClose, is_ask, ask_count}
 use Rattle.run_script.specs.Jobs.{turn, turns, turns_from, JobView, box_count as boxes_of, all_edited, planned, plan_at, idle, step_at, has_points, are_different, edit_fault, fault_on, edits_fault, wait_fault, edits_of, items_of, script_fault, job_of, EditsFit, IsTurn, IsJob}
 use Rattle.run_script.proofs.CheckLemmas.{all_edited-append, edits_fault-append, wait_fault-append, edits_of-more-at, edits_of-around-at, or_else-none}
 
@@ -233,8 +233,8 @@ few-turns steps (t ∷ ts) a = let s = (a.0).some in omega (arith, few-turns ste
 
 record AllTurned (steps : ℕ) (sessions : List (List Item)) : Type 0 where
   each : AllByRecursion (All (IsTurn steps)) (map turns sessions)
-  boxes : sum_by boxes_of (map turns sessions) ≡ box_count sessions
-  few : sum_by length (map turns sessions) ≤ box_count sessions
+  boxes : sum_by boxes_of (map turns sessions) ≡ ask_count sessions
+  few : sum_by length (map turns sessions) ≤ ask_count sessions
 
 all-turned : (version steps : ℕ) (sessions : List (List Item)) → AllByRecursion (IsSession version) sessions → wait_fault steps (items_of sessions) ≡ None → AllTurned steps sessions
 all-turned version steps [] a w = record { each = tt; boxes = refl; few = omega arith }

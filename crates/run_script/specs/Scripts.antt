@@ -92,14 +92,15 @@ pub record IsSession (version : ℕ) (items : List Item) : Type 0 where
 abbrev pub edit_count : List Plan → ℕ
 edit_count plans = sum_by (λ p. length p.edits) plans
 
-abbrev pub box_count : List (List Item) → ℕ
-box_count sessions = sum_by (count_by is_ask) sessions
+-- how many boxes are asked
+abbrev pub ask_count : List (List Item) → ℕ
+ask_count sessions = sum_by (count_by is_ask) sessions
 
 pub record IsScript (script : ScriptView) : Type 0 where
   pub version : (script.version ≡ 1) ⊎ (script.version ≡ 2)
   pub few_steps : length script.plans ≤ most_steps
   pub few_edits : edit_count script.plans ≤ most_edits
   pub few_sessions : length script.sessions ≤ most_sessions
-  pub few_boxes : box_count script.sessions ≤ most_boxes
+  pub few_boxes : ask_count script.sessions ≤ most_boxes
   pub plans : All IsPlan script.plans
   pub sessions : All (IsSession script.version) script.sessions

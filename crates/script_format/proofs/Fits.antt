@@ -18,7 +18,7 @@ use Rattle.script_format.specs.Rows.{is_edit, is_move, is_session, is_box, is_en
 use Rattle.script_format.specs.ScriptText.{on_line, words, row_of_line, rows_of}
 use Rattle.script_format.specs.Reads.{IsVersion}
 use Rattle.script_format.specs.Reading.{closed, opened}
-use Rattle.run_script.specs.Scripts.{IsEdit, IsItem, IsPlan, HoldsClose, is_hold, is_ask, IsSession, edit_count, box_count, IsScript}
+use Rattle.run_script.specs.Scripts.{IsEdit, IsItem, IsPlan, HoldsClose, is_hold, is_ask, IsSession, edit_count, ask_count, IsScript}
 use Rattle.script_format.proofs.RowLemmas.{waiting-append, plans-append, opened-append, closed-append, groups-are, items-append, held-append, count-more, count-same}
 use Rattle.script_format.proofs.Checks.{Checked, bind-ok, checked, not_ended}
 
@@ -316,7 +316,7 @@ box-ask item.Free = refl
 abbrev one_if : Bool → ℕ
 one_if b = cond b 1 0
 
-boxes-made : (its : List Item) (rows : List Row) → box_count (groups its rows) ≡ count_by is_ask its + count_by is_box rows
+boxes-made : (its : List Item) (rows : List Row) → ask_count (groups its rows) ≡ count_by is_ask its + count_by is_box rows
 boxes-made its [] = omega arith
 boxes-made its (row.Edit e ∷ rows) = omega (arith, boxes-made its rows, count-cons is_box (row.Edit e) rows)
 boxes-made its (row.Move k ∷ rows) = omega (arith, boxes-made its rows, count-cons is_box (row.Move k) rows)
@@ -326,7 +326,7 @@ boxes-made its (row.Does i ∷ rows) =
     omega (arith, b, boxes-made (its ++ i ∷ []) rows, asks-push its i, count-cons is_box (row.Does i) rows)
 boxes-made its (row.End ∷ rows) = omega (arith, boxes-made its rows, count-cons is_box row.End rows)
 
-fewer-boxes : (gs : List (List Item)) → box_count (drop 1 gs) ≤ box_count gs
+fewer-boxes : (gs : List (List Item)) → ask_count (drop 1 gs) ≤ ask_count gs
 fewer-boxes [] = omega arith
 fewer-boxes (g ∷ gs) = omega (arith, sum_by-cons (count_by is_ask) g gs)
 

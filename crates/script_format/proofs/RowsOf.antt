@@ -14,7 +14,7 @@ use Rattle.run_script.specs.declared.script.LinedEdit.{LinedEdit}
 use Rattle.run_script.specs.declared.script.Plan.{Plan}
 use Rattle.run_script.specs.declared.script.Item.{Item}
 use Rattle.run_script.specs.declared.script.Item.TheVariants as item
-use Rattle.run_script.specs.Scripts.{ScriptView, IsEdit, IsKernel, IsItem, IsPlan, HoldsClose, IsSession, is_hold, is_ask, edit_count, box_count, IsScript}
+use Rattle.run_script.specs.Scripts.{ScriptView, IsEdit, IsKernel, IsItem, IsPlan, HoldsClose, IsSession, is_hold, is_ask, edit_count, ask_count, IsScript}
 use Rattle.script_format.specs.declared.row.Row.{Row}
 use Rattle.script_format.specs.declared.row.Row.TheVariants as row
 use Rattle.script_format.specs.declared.row.Standing.{Standing}
@@ -244,7 +244,7 @@ module _ (version k l : ℕ) (v : (version ≡ 1) ⊎ (version ≡ 2)) where
   end-comes true m b = record { fits = tt; in_order = refl; few = refl }
   end-comes false m b = record { fits = tt; in_order = refl; few = refl }
 
-  sessions-follow : (began : Bool) (m b boxes : ℕ) (ss : List (List Item)) → AllByRecursion (IsSession version) ss → m + length ss ≤ 8 → b + box_count ss ≡ boxes → boxes ≤ 100000
+  sessions-follow : (began : Bool) (m b boxes : ℕ) (ss : List (List Item)) → AllByRecursion (IsSession version) ss → m + length ss ≤ 8 → b + ask_count ss ≡ boxes → boxes ≤ 100000
       → MayFollow version (in_turns began None k l m b) (session_rows ss (row.End ∷ []))
   sessions-follow began m b boxes [] a few sum le = (end-comes began m b, tt)
   sessions-follow began m b boxes (s ∷ ss) a few sum le =
@@ -257,4 +257,4 @@ module _ (version k l : ℕ) (v : (version ≡ 1) ⊎ (version ≡ 2)) where
 pub rows-follow : (s : ScriptView) → IsScript s → MayFollow s.version (standing []) (script_rows s)
 rows-follow s i =
     plans-follow s.version 0 0 (length s.plans) (edit_count s.plans) s.plans (session_rows s.sessions (row.End ∷ [])) (recursion_from_All IsPlan s.plans i.plans) (omega arith) i.few_steps (omega arith) i.few_edits
-    (sessions-follow s.version (length s.plans) (edit_count s.plans) i.version false 0 0 (box_count s.sessions) s.sessions (recursion_from_All (IsSession s.version) s.sessions i.sessions) (let f = i.few_sessions in omega arith) (omega arith) i.few_boxes)
+    (sessions-follow s.version (length s.plans) (edit_count s.plans) i.version false 0 0 (ask_count s.sessions) s.sessions (recursion_from_All (IsSession s.version) s.sessions i.sessions) (let f = i.few_sessions in omega arith) (omega arith) i.few_boxes)

@@ -1,10 +1,10 @@
 -- What a script text says. Each line is a row of the table below, or has a first fault, and the rows before it decide which.
-use Rattle.std.specs.Prelude.{ℕ, ◌+◌, ◌-◌, ◌^◌, Bool, true, false, not, ◌||◌, ◌&&◌, ◌==◌, nat_lt, nat_le, if◌then◌else◌, List, [], ◌∷◌, ◌++◌, length, map, filter, Option, Some, None, Result, Ok, Err, ℤ, pos, neg_ℤ, int_le, unsigned_abs, codes}
+use Rattle.std.specs.Prelude.{ℕ, ◌+◌, ◌-◌, ◌^◌, Bool, true, false, not, ◌||◌, ◌&&◌, ◌==◌, nat_lt, nat_le, if◌then◌else◌, List, [], ◌∷◌, ◌++◌, length, map, filter, Option, Some, None, Result, Ok, Err, ℤ, pos, neg_ℤ, unsigned_abs, codes}
 use Rattle.std.specs.List.{slice_split, list_any}
 use Rattle.std.specs.Option.{is_some, option_to_list}
 use Rattle.std.specs.Str.{bytes_eq}
 use Rattle.std.specs.Cmp.Lexicographic.{pointwise}
-use Rattle.mesh_base.specs.Place.{Place, Area}
+use Rattle.mesh_base.specs.Place.{Place, Area, is_area}
 use Rattle.mesh_base.specs.declared.edit.Axis.{Axis}
 use Rattle.mesh_base.specs.declared.edit.Axis.TheVariants as axis
 use Rattle.mesh_base.specs.declared.edit.Edit.TheVariants as edit
@@ -246,10 +246,6 @@ axis_spelled word =
 abbrev pub axis_of : List Word → Result Axis ScriptKind
 axis_of [] = Err kinds.Word
 axis_of (w ∷ left) = axis_spelled w
-
--- the low corner is not above the high one
-abbrev pub is_area : Place → Place → Bool
-is_area lo hi = int_le lo.0 hi.0 && (int_le lo.1 hi.1 && int_le lo.2 hi.2)
 
 abbrev pub area_of : Place → Place → Result Area ScriptKind
 area_of lo hi = if is_area lo hi then Ok (record { lo = lo; hi = hi }) else Err kinds.Box

@@ -1,5 +1,5 @@
 -- Reading leaves no more bytes than there were, so the bound on the number of blocks does not matter.
-use Rattle.std.proofs.Common.{◌≡◌, ℕ, zero, suc, ◌+◌, ◌*◌, ◌<◌, ◌≤◌, Bool, true, false, cond, eqb, ltb, List, [], ◌∷◌, length, drop, take, Option, Some, None, Result, Ok, Err, refl, ap, ◌∙◌, arith}
+use Rattle.std.proofs.Common.{◌≡◌, ℕ, zero, suc, ◌+◌, ◌*◌, ◌<◌, ◌≤◌, Bool, true, false, cond, eqb, ltb, length, drop, take, Option, Some, None, Result, Ok, Err, refl, ap, ◌∙◌, arith}
 use Rattle.std.specs.Prelude.{codes}
 use Rattle.std.specs.List.{prefix_len, position_or_len}
 use Rattle.std.proofs.lemmas.List.{length-drop}
@@ -8,31 +8,13 @@ use Rattle.oct_text.specs.Rest.{is_blank, solid_len, Left, Token, next_token, to
 use Rattle.oct_text.specs.Numbers.{count_of}
 use Rattle.oct_text.specs.declared.numbers.CountFault.{CountFault}
 use Rattle.oct_text.specs.declared.numbers.CountFault.TheVariants as count_faults
+use Rattle.oct_text.proofs.TokenLemmas.{solid_there}
 use Rattle.vtk_legacy.specs.declared.fault.MeshKind.{MeshKind}
 use Rattle.vtk_legacy.specs.declared.fault.MeshKind.TheVariants as kinds
 use Rattle.vtk_legacy.specs.Words.{word_is, is_numeric}
 use Rattle.vtk_legacy.specs.MeshText.{Fault, fault, ◌>>=◌, Read, or_truncated, token, counted, count, count_taken, most_count, numeric, numeric_taken, skip, array, arrays, field, metadata, blank_line_len, on_block, blocks_within, blocks}
 
 -- ---- a token
-
-one_more : (n : ℕ) → 1 + n ≡ suc n
-one_more n = omega arith
-
-dropped : (p : ℕ → Bool) (b : ℕ) (bs : List ℕ) → p b ≡ true → drop (prefix_len p (b ∷ bs)) (b ∷ bs) ≡ drop (prefix_len p bs) bs
-dropped p b bs e = rw (e, one_more (prefix_len p bs)) refl
-
-solid_first : (b : ℕ) (bs : List ℕ) (x : Bool) → is_blank b ≡ x
-    → (0 < length (drop (prefix_len is_blank bs) bs) → 0 < solid_len (drop (prefix_len is_blank bs) bs))
-    → 0 < length (drop (prefix_len is_blank (b ∷ bs)) (b ∷ bs)) → 0 < solid_len (drop (prefix_len is_blank (b ∷ bs)) (b ∷ bs))
-solid_first b bs true e later some =
-    let same = dropped is_blank b bs e in
-    rw same (later (rw (← same) some))
-solid_first b bs false e later some = rw (e, e) (omega arith)
-
--- behind the blanks there is a token, unless there is nothing
-solid_there : (bytes : List ℕ) → 0 < length (drop (prefix_len is_blank bytes) bytes) → 0 < solid_len (drop (prefix_len is_blank bytes) bytes)
-solid_there [] some = absurd (omega arith)
-solid_there (b ∷ bs) some = solid_first b bs (is_blank b) refl (solid_there bs) some
 
 guarded : {A : Type 0} (c : Bool) (x y : A) → cond c None (Some x) ≡ Some y → (c ≡ false) × (x ≡ y)
 guarded true x y e = absurd cc

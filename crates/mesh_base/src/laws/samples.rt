@@ -8,7 +8,7 @@ ghost use Rattle.mesh_base.specs.Walk.{distance};
 ghost use Rattle.mesh_base.specs.Answer.{walked};
 ghost use Rattle.mesh_base.specs.Edit.{EditFits};
 ghost use Rattle.mesh_base.specs.Kernel.{moved};
-ghost use Rattle.mesh_base.specs.Samples.{at, cell, box, one_cell, split_once, split_twice, opened, doubled, with_spare, all_fours, far_out, empty, least_corner, greatest_corner, Gives};
+ghost use Rattle.mesh_base.specs.Samples.{at, cell, box, one_cell, split_once, split_twice, opened, doubled, with_spare, all_fours, far_out, empty, least_corner, greatest_corner, IsWorked};
 ghost use Rattle.mesh_base.specs.declared.edit.Edit.TheVariants.{Add, Remove};
 ghost use Rattle.mesh_base.specs.declared.edit.Axis.TheVariants.{X, Y, Z};
 ghost use Rattle.mesh_base.specs.declared.edit.Kernel.TheVariants.{Stay, Shift, Pull, Shake, Relax, Turn};
@@ -57,26 +57,26 @@ pub fn sample_surfaces()
 /// Routes, answers and read bounds of some boxes.
 pub fn sample_answers()
     // The walk goes from 0 to 4, which lies inside.
-    ensures inner { Gives split_twice (box (at 4 4 4) (at 4 4 4)) Walk (4 ∷ []) 20 }
+    ensures inner { IsWorked split_twice (box (at 4 4 4) (at 4 4 4)) Walk (4 ∷ []) 20 }
     ensures inner_walk { walked split_twice (box (at 4 4 4) (at 4 4 4)) ≡ 0 ∷ 4 ∷ [] }
 
     // The walk is stuck at 1, the first of three vertices at one distance.
-    ensures far { Gives split_twice (box (at 100 100 100) (at 101 101 101)) Scan [] 15 }
+    ensures far { IsWorked split_twice (box (at 100 100 100) (at 101 101 101)) Scan [] 15 }
     ensures far_walk { walked split_twice (box (at 100 100 100) (at 101 101 101)) ≡ 1 ∷ [] }
     ensures far_distance { distance split_twice (box (at 100 100 100) (at 101 101 101)) 1 ≡ 27056 }
 
     // Inside are 1 and 5, which are no neighbours, and 5 isn't of the surface.
-    ensures front { Gives split_twice (box (at 2 0 0) (at 16 6 3)) Probe (1 ∷ []) 8 }
+    ensures front { IsWorked split_twice (box (at 2 0 0) (at 16 6 3)) Probe (1 ∷ []) 8 }
     ensures front_scan { scan split_twice (box (at 2 0 0) (at 16 6 3)) ≡ 1 ∷ 5 ∷ [] }
     ensures front_uncovered { ¬ IsCovered split_twice (box (at 2 0 0) (at 16 6 3)) }
 
-    ensures whole { Gives split_twice (box (at 0 0 0) (at 16 16 16)) Probe (0 ∷ 1 ∷ 2 ∷ 3 ∷ 4 ∷ 5 ∷ []) 32 }
+    ensures whole { IsWorked split_twice (box (at 0 0 0) (at 16 16 16)) Probe (0 ∷ 1 ∷ 2 ∷ 3 ∷ 4 ∷ 5 ∷ []) 32 }
     ensures whole_covered { IsCovered split_twice (box (at 0 0 0) (at 16 16 16)) }
 
     // Without a surface every box is scanned.
-    ensures doubled { Gives doubled (box (at 0 0 0) (at 4 0 0)) Scan (0 ∷ 1 ∷ []) 4 }
-    ensures all_fours { Gives all_fours (box (at 0 0 0) (at 1 1 1)) Scan (0 ∷ 4 ∷ []) 5 }
-    ensures empty { Gives empty (box (at 0 0 0) (at 16 16 16)) Scan [] 0 }
+    ensures doubled { IsWorked doubled (box (at 0 0 0) (at 4 0 0)) Scan (0 ∷ 1 ∷ []) 4 }
+    ensures all_fours { IsWorked all_fours (box (at 0 0 0) (at 1 1 1)) Scan (0 ∷ 4 ∷ []) 5 }
+    ensures empty { IsWorked empty (box (at 0 0 0) (at 16 16 16)) Scan [] 0 }
 
     // A point that no cell has is never answered.
     ensures spare { scan with_spare (box (at 0 0 0) (at 4 0 0)) ≡ 0 ∷ 1 ∷ [] }
