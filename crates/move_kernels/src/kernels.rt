@@ -3,6 +3,7 @@ ghost use Rattle.std.specs.Prelude.{◌≡◌, ◌<◌, ◌≤◌, ℕ, ◌^◌,
 ghost use Rattle.mesh_base.specs.Place.{Place, IsCoordinate};
 ghost use Rattle.mesh_base.specs.Kernel.{floor_of, held_place, plus, pulled, shaken, turned, place_by};
 ghost use Rattle.mesh_base.specs.declared.edit.Kernel.TheVariants.{Relax};
+ghost use Rattle.mesh_base.specs.Limits.{most_points};
 ghost use Rattle.topo.specs.Topology.{mesh_at};
 
 use crate::motion::Motion;
@@ -162,7 +163,7 @@ pub struct Relaxed<'a> {
     pub old: &'a Positions,
     pub shape: &'a Shape,
     ghost each_has_one: { length old.now ≡ shape.now.points },
-    ghost few: { length old.now ≤ MOST_POINTS },
+    ghost few: { length old.now ≤ most_points },
 }
 
 // The sum of the places of these points on each axis.

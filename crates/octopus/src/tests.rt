@@ -73,14 +73,14 @@ fn check(
     rt: &(impl Threads + Wait + Sync + Abort),
     alloc: Global,
     line: &str,
-    mesh: &[u8],
-    script: &[u8],
+    mesh: &str,
+    script: &str,
     status: Status,
-    written: &[u8],
+    written: &str,
 ) -> Result<(), NoMemory> {
-    let from = folder(alloc, mesh, script, &[])?;
+    let from = folder(alloc, mesh.as_bytes(), script.as_bytes(), &[])?;
     let (got, text) = run(rt, alloc, line, from, sink(alloc, &[])?)?;
     assert_eq!(rt; got, status, "the status of `{line}`");
-    assert_eq!(rt; text.as_slice(), written, "what `{line}` wrote");
+    assert_eq!(rt; text.as_slice(), written.as_bytes(), "what `{line}` wrote");
     Ok(())
 }

@@ -39,12 +39,13 @@ impl Model for Positions {
     ghost use Rattle.std.specs.Arc.{arc_value};
     ghost use Rattle.mesh_base.specs.Place.{Place};
     ghost use Rattle.topo.specs.Chunks.{AreChunks};
+    ghost use Rattle.mesh_base.specs.Limits.{most_points};
 
     ghost Value = { List Place };
 
     ghost view = { λ p. flat_map arc_value p.chunks.items };
 
-    ghost invariant = { λ p. (p.len ≤ MOST_POINTS) × (length (flat_map arc_value p.chunks.items) ≡ p.len) × AreChunks arc_value (flat_map arc_value p.chunks.items) p.chunks.items };
+    ghost invariant = { λ p. (p.len ≤ most_points) × (length (flat_map arc_value p.chunks.items) ≡ p.len) × AreChunks arc_value (flat_map arc_value p.chunks.items) p.chunks.items };
 }
 
 // A chunk with these points: the old one, if it has them.

@@ -10,7 +10,7 @@ ghost use Rattle.octopus.specs.Outcomes.{Owes};
 use crate::files::load_job;
 use crate::outcome::Early;
 use crate::refusal::Refusal;
-use job_steps::{first_step, mesh_of};
+use job_steps::{Maker, mesh_of};
 use mesh_base::NoMemory;
 use oct_edge::Folder;
 use run_script::Job;
@@ -19,16 +19,16 @@ use std::sync::Arc;
 use step_view::Step;
 use vtk_legacy::write_mesh;
 
-// Makes the steps of a job up to this one.
+// Makes the steps of a job up to this one, and hands out that one alone.
 fn make_step(alloc: Global, job: Job, number: u32) -> Result<Step, NoMemory>
     requires { number ≤ length job.plans }
     ensures { IfOk result (λ step. step.mesh ≡ step_at job number) }
 {
-    let (first, mut maker) = first_step(alloc, Arc::new(alloc, job)?)?;
-    let mut step = first;
+    let mut maker = Maker::new(alloc, Arc::new(alloc, job)?)?;
     for _ in 0..number {
-        step = maker.next_plain(alloc)?;
+        maker.pass_plain(alloc)?;
     }
+    let step = maker.last_step(alloc)?;
     Ok(step)
 }
 

@@ -97,15 +97,7 @@ const ANSWERS: [(&str, &str, &str, &str); 24] = [
 #[test]
 fn answers(rt: HostRuntime) -> Result<(), Fail> {
     for (line, mesh, script, written) in ANSWERS {
-        check(
-            &rt,
-            rt.alloc(),
-            line,
-            mesh.as_bytes(),
-            script.as_bytes(),
-            Status::Done,
-            written.as_bytes(),
-        )?;
+        check(&rt, rt.alloc(), line, mesh, script, Status::Done, written)?;
     }
     Ok(())
 }
@@ -133,10 +125,10 @@ fn rings(rt: HostRuntime) -> Result<(), Fail> {
             &rt,
             rt.alloc(),
             line,
-            SPLIT_TWICE.as_bytes(),
-            b"",
+            SPLIT_TWICE,
+            "",
             Status::Done,
-            written.as_bytes(),
+            written,
         )?;
     }
     Ok(())
@@ -161,10 +153,10 @@ fn upgraded_scripts(rt: HostRuntime) -> Result<(), Fail> {
             &rt,
             rt.alloc(),
             "upgrade s.txt",
-            b"",
-            script.as_bytes(),
+            "",
+            script,
             Status::Done,
-            written.as_bytes(),
+            written,
         )?;
     }
     Ok(())

@@ -39,10 +39,10 @@ fn words_without_a_form(rt: HostRuntime) -> Result<(), Fail> {
             &rt,
             rt.alloc(),
             line,
-            ONE.as_bytes(),
-            b"",
+            ONE,
+            "",
             Status::Usage,
-            b"refused usage\n",
+            "refused usage\n",
         )?;
     }
     Ok(())
@@ -129,15 +129,7 @@ const REFUSED: [(&str, &str, &str, Status, &str); 14] = [
 #[test]
 fn refusals(rt: HostRuntime) -> Result<(), Fail> {
     for (line, mesh, script, status, written) in REFUSED {
-        check(
-            &rt,
-            rt.alloc(),
-            line,
-            mesh.as_bytes(),
-            script.as_bytes(),
-            status,
-            written.as_bytes(),
-        )?;
+        check(&rt, rt.alloc(), line, mesh, script, status, written)?;
     }
     Ok(())
 }
@@ -213,10 +205,10 @@ fn scripts_with_faults(rt: HostRuntime) -> Result<(), Fail> {
             &rt,
             alloc,
             line,
-            ONE.as_bytes(),
-            script.as_bytes(),
+            ONE,
+            script.as_str(),
             Status::BadScript,
-            due.as_bytes(),
+            due.as_str(),
         )?;
     }
     Ok(())

@@ -191,15 +191,7 @@ const PLAYED: [(&str, &str, &str, Status, &str); 13] = [
 #[test]
 fn demos_and_refusals(rt: HostRuntime) -> Result<(), Fail> {
     for (line, mesh, script, status, written) in PLAYED {
-        check(
-            &rt,
-            rt.alloc(),
-            line,
-            mesh.as_bytes(),
-            script.as_bytes(),
-            status,
-            written.as_bytes(),
-        )?;
+        check(&rt, rt.alloc(), line, mesh, script, status, written)?;
     }
     Ok(())
 }

@@ -69,10 +69,10 @@ fn steps_that_move(rt: HostRuntime) -> Result<(), Fail> {
             &rt,
             alloc,
             line,
-            mesh.as_bytes(),
-            script.as_bytes(),
+            mesh.as_str(),
+            script,
             Status::Done,
-            moved.as_bytes(),
+            moved.as_str(),
         )?;
     }
     Ok(())
@@ -102,15 +102,10 @@ fn steps_are_read_again(rt: HostRuntime) -> Result<(), Fail> {
     for (mesh, script, line, written) in REREAD {
         let from = folder(alloc, mesh.as_bytes(), script.as_bytes(), &[])?;
         let (_, step) = run(&rt, alloc, "step m.vtk s.txt 1", from, sink(alloc, &[])?)?;
-        check(
-            &rt,
-            alloc,
-            line,
-            &step,
-            b"",
-            Status::Done,
-            written.as_bytes(),
-        )?;
+        let from = folder(alloc, &step, b"", &[])?;
+        let (status, text) = run(&rt, alloc, line, from, sink(alloc, &[])?)?;
+        assert_eq!(rt; status, Status::Done, "`{line}`");
+        assert_eq!(rt; text.as_slice(), written.as_bytes(), "`{line}`");
     }
     Ok(())
 }

@@ -1,7 +1,6 @@
 use Rattle.std.proofs.Common.{◌≡◌}
-use Rattle.step_view.specs.StepView.{step_of}
 use Rattle.job_steps.specs.MakerView.{maker_at}
 use Rattle.octopus.proofs.commands.step.make_step.Given as goal
 
 abbrev pub invariant-loop : goal.invariant-loop
-invariant-loop l = (l.maker ≡ maker_at l.fn.job l.counter) × (l.step ≡ step_of l.fn.job l.counter)
+invariant-loop l = l.maker ≡ maker_at l.fn.job l.counter
