@@ -12,15 +12,15 @@ use Rattle.run_script.specs.Scripts.{ScriptView}
 use Rattle.script_format.specs.ScriptText.{script_text}
 use Rattle.script_format.specs.Printed.{script_spelling}
 use Rattle.run_script.specs.Jobs.{JobView, steps, step_at, checked}
-use Rattle.octopus.specs.declared.words.Command.{Command}
+use Rattle.command_words.specs.declared.words.Command.{Command}
 use Rattle.cell_box.specs.Cells.{cells_by}
-use Rattle.octopus.specs.declared.words.Command.TheVariants.{Scan, Surface, Gen, Step, Upgrade, Box, Cells, Rings}
+use Rattle.command_words.specs.declared.words.Command.TheVariants.{Scan, Surface, Gen, Step, Upgrade, Box, Cells, Rings}
 use Rattle.octopus.specs.declared.refusal.Refusal.{Refusal}
 use Rattle.octopus.specs.declared.refusal.Refusal.TheVariants as refusals
 use Rattle.sample_meshes.specs.Block.{block}
-use Rattle.octopus.specs.declared.words.Played.{Played}
-use Rattle.octopus.specs.declared.words.Played.TheVariants.{Run, Demo, Watch}
-use Rattle.octopus.specs.Words.{command_of, played_of}
+use Rattle.command_words.specs.declared.words.Played.{Played}
+use Rattle.command_words.specs.declared.words.Played.TheVariants.{Run, Demo, Watch}
+use Rattle.command_words.specs.Words.{command_of, played_of}
 use Rattle.octopus.specs.Demo.{demo_text}
 use Rattle.octopus.specs.Lines.{list_text, answer_text}
 

@@ -4,13 +4,13 @@ use Rattle.oct_edge.specs.Outside.{Files}
 use Rattle.mesh_base.specs.Mesh.{MeshView}
 use Rattle.vtk_legacy.specs.Readings.{Fault}
 use Rattle.vtk_legacy.specs.MeshText.{mesh_text}
-use Rattle.octopus.specs.declared.words.Command.{Command}
-use Rattle.octopus.specs.declared.words.Command.TheVariants.{Scan, Surface, Gen, Step, Upgrade, Box, Cells, Rings}
-use Rattle.octopus.specs.declared.words.Played.{Played}
-use Rattle.octopus.specs.declared.words.Played.TheVariants.{Run, Demo, Watch}
+use Rattle.command_words.specs.declared.words.Command.{Command}
+use Rattle.command_words.specs.declared.words.Command.TheVariants.{Scan, Surface, Gen, Step, Upgrade, Box, Cells, Rings}
+use Rattle.command_words.specs.declared.words.Played.{Played}
+use Rattle.command_words.specs.declared.words.Played.TheVariants.{Run, Demo, Watch}
 use Rattle.octopus.specs.declared.refusal.Refusal.{Refusal}
 use Rattle.octopus.specs.declared.refusal.Refusal.TheVariants.{Usage, LongMesh, Mesh, LongScript, Script, NoStep}
-use Rattle.octopus.specs.Words.{command_of, played_of}
+use Rattle.command_words.specs.Words.{command_of, played_of}
 use Rattle.octopus.specs.declared.status.Status.{Status}
 use Rattle.octopus.specs.declared.status.Status.TheVariants.{TooLong}
 use Rattle.octopus.specs.Due.{Due, Refuse, mesh_limit, script_limit}

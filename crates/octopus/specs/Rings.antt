@@ -10,10 +10,6 @@ use Rattle.hop_rings.specs.declared.ring.Ring.{Ring}
 use Rattle.hop_rings.specs.Rings.{AreRings, ring_at}
 use Rattle.octopus.specs.Lines.{line, list_line, route_word}
 
--- the most edges to the last ring
-abbrev pub most_hops : ℕ
-most_hops = 1000
-
 -- which ring it is, and how many vertices it has
 abbrev pub ring_words : ℕ → Ring → List ℕ
 ring_words n ring = codes "ring " ++ decimal n ++ (codes " count " ++ decimal (length ring.vertices))

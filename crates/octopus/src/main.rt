@@ -9,7 +9,6 @@ mod commands;
 mod deliver;
 mod demo_job;
 mod files;
-mod hops;
 mod intake;
 mod lines;
 mod one_step;
@@ -18,7 +17,6 @@ mod plain;
 mod refusal;
 mod status;
 mod threads;
-mod words;
 
 use crate::plain::plain;
 use crate::status::Status;

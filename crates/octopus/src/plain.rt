@@ -3,7 +3,7 @@ ghost use Rattle.std.specs.Prelude.{◌≡◌, ◌≢◌, ◌+◌, ◌≤◌, �
 ghost use Rattle.std.specs.String.{string_bytes};
 ghost use Rattle.std.specs.Io.KnownBytes.{Keeps, IsAtEnd};
 ghost use Rattle.oct_edge.specs.Causes.{Rose};
-ghost use Rattle.octopus.specs.Words.{command_of};
+ghost use Rattle.command_words.specs.Words.{command_of};
 ghost use Rattle.octopus.specs.Due.{due, due_of_words};
 ghost use Rattle.octopus.specs.Failures.{RisesOnce, EndsAs, WritesNone};
 ghost use Rattle.octopus.specs.Opened.{most_opened, ReadsPast};
@@ -22,7 +22,7 @@ use crate::deliver::tell;
 use crate::outcome::Early;
 use crate::refusal::Refusal;
 use crate::status::Status;
-use crate::words::{Command, read_command};
+use command_words::{Command, read_command};
 use oct_edge::{Folder, Sink};
 use std::alloc::Global;
 

@@ -1,7 +1,7 @@
 //! The command `box`.
 ghost use Rattle.std.specs.Prelude.{◌≡◌, IfOk, Some};
 ghost use Rattle.mesh_base.specs.Query.{route, answer};
-ghost use Rattle.octopus.specs.declared.words.Command.TheVariants.{Box};
+ghost use Rattle.command_words.specs.declared.words.Command.TheVariants.{Box};
 ghost use Rattle.octopus.specs.Lines.{answer_text};
 ghost use Rattle.octopus.specs.Due.{due_of};
 ghost use Rattle.octopus.specs.Outcomes.{Owes};

@@ -2,7 +2,7 @@
 ghost use Rattle.std.specs.Prelude.{◌≡◌, IfOk, Some};
 ghost use Rattle.mesh_base.specs.Query.{route, answer};
 ghost use Rattle.cell_box.specs.Cells.{cells_by};
-ghost use Rattle.octopus.specs.declared.words.Command.TheVariants as commands;
+ghost use Rattle.command_words.specs.declared.words.Command.TheVariants as commands;
 ghost use Rattle.octopus.specs.Lines.{answer_text};
 ghost use Rattle.octopus.specs.Due.{due_of};
 ghost use Rattle.octopus.specs.Outcomes.{Owes};

@@ -1,18 +1,18 @@
 //! The command `rings`.
 ghost use Rattle.std.specs.Prelude.{◌≡◌, ◌++◌, ◌<◌, length, codes, OnOk, IfOk, Some};
 ghost use Rattle.std.specs.Fmt.{decimal};
-ghost use Rattle.octopus.specs.declared.words.Command.TheVariants as commands;
+ghost use Rattle.command_words.specs.declared.words.Command.TheVariants as commands;
 ghost use Rattle.octopus.specs.Lines.{line, route_word};
 ghost use Rattle.octopus.specs.Rings.{ring_text, ring_part, rings_part, rings_text, TellsRings};
 ghost use Rattle.octopus.specs.Due.{due_of};
 ghost use Rattle.octopus.specs.Outcomes.{Owes};
 
 use crate::files::load_mesh;
-use crate::hops::Hops;
 use crate::lines::{put_list_line, put_route};
 use crate::one_step::only_step;
 use crate::outcome::Early;
 use box_crawl::Marks;
+use command_words::Hops;
 use hop_rings::{Ring, rings_round};
 use mesh_base::{BoxQ, NoMemory, Route};
 use oct_edge::Folder;

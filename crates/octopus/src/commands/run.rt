@@ -1,7 +1,7 @@
 //! The command `run`.
 ghost use Rattle.std.specs.Prelude.{◌≡◌, IfOk};
 ghost use Rattle.report.specs.Headline.{Reports};
-ghost use Rattle.octopus.specs.declared.words.Played.TheVariants.{Run};
+ghost use Rattle.command_words.specs.declared.words.Played.TheVariants.{Run};
 ghost use Rattle.octopus.specs.Due.{due_of_played};
 ghost use Rattle.octopus.specs.Opened.{most_of_job};
 ghost use Rattle.octopus.specs.Outcomes.{Owes};

@@ -1,7 +1,7 @@
 //! The command `scan`.
 ghost use Rattle.std.specs.Prelude.{◌≡◌, IfOk, Some};
 ghost use Rattle.mesh_base.specs.Scan.{scan};
-ghost use Rattle.octopus.specs.declared.words.Command.TheVariants.{Scan};
+ghost use Rattle.command_words.specs.declared.words.Command.TheVariants.{Scan};
 ghost use Rattle.octopus.specs.Lines.{list_text};
 ghost use Rattle.octopus.specs.Due.{due_of};
 ghost use Rattle.octopus.specs.Outcomes.{Owes};

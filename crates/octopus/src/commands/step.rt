@@ -2,7 +2,7 @@
 ghost use Rattle.std.specs.Prelude.{◌≡◌, ◌≤◌, length, IfOk, Some};
 ghost use Rattle.vtk_legacy.specs.Written.{mesh_spelling};
 ghost use Rattle.run_script.specs.Jobs.{step_at};
-ghost use Rattle.octopus.specs.declared.words.Command.TheVariants as commands;
+ghost use Rattle.command_words.specs.declared.words.Command.TheVariants as commands;
 ghost use Rattle.octopus.specs.Due.{due_of};
 ghost use Rattle.octopus.specs.Opened.{most_of_job};
 ghost use Rattle.octopus.specs.Outcomes.{Owes};

@@ -1,7 +1,7 @@
 //! The command `surface`.
 ghost use Rattle.std.specs.Prelude.{◌≡◌, IfOk, Some};
 ghost use Rattle.mesh_base.specs.Mesh.{surface};
-ghost use Rattle.octopus.specs.declared.words.Command.TheVariants.{Surface};
+ghost use Rattle.command_words.specs.declared.words.Command.TheVariants.{Surface};
 ghost use Rattle.octopus.specs.Lines.{list_text};
 ghost use Rattle.octopus.specs.Due.{due_of};
 ghost use Rattle.octopus.specs.Outcomes.{Owes};

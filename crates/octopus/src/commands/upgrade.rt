@@ -1,7 +1,7 @@
 //! The command `upgrade`.
 ghost use Rattle.std.specs.Prelude.{◌≡◌, IfOk, Some};
 ghost use Rattle.script_format.specs.Printed.{script_spelling};
-ghost use Rattle.octopus.specs.declared.words.Command.TheVariants.{Upgrade};
+ghost use Rattle.command_words.specs.declared.words.Command.TheVariants.{Upgrade};
 ghost use Rattle.octopus.specs.Due.{due_of, upgraded};
 ghost use Rattle.octopus.specs.Outcomes.{Owes};
 

@@ -1,7 +1,7 @@
 //! The command `watch`.
 ghost use Rattle.std.specs.Prelude.{◌≡◌, IfOk};
 ghost use Rattle.box_watch.specs.WatchText.{Watches};
-ghost use Rattle.octopus.specs.declared.words.Played.TheVariants.{Watch};
+ghost use Rattle.command_words.specs.declared.words.Played.TheVariants.{Watch};
 ghost use Rattle.octopus.specs.Due.{due_of_played};
 ghost use Rattle.octopus.specs.Opened.{most_of_job};
 ghost use Rattle.octopus.specs.Outcomes.{Owes};

@@ -7,12 +7,12 @@ use Rattle.oct_text.specs.Numbers.{signed_of, count_of}
 use Rattle.mesh_base.specs.Place.{Place, Area, is_area}
 use Rattle.cell_box.specs.declared.how.How.{How}
 use Rattle.cell_box.specs.declared.how.How.TheVariants.{Whole, Touching}
-use Rattle.octopus.specs.declared.words.Command.{Command}
-use Rattle.octopus.specs.declared.words.Command.TheVariants as commands
-use Rattle.octopus.specs.declared.words.Played.{Played}
-use Rattle.octopus.specs.declared.words.Played.TheVariants as played
+use Rattle.command_words.specs.declared.words.Command.{Command}
+use Rattle.command_words.specs.declared.words.Command.TheVariants as commands
+use Rattle.command_words.specs.declared.words.Played.{Played}
+use Rattle.command_words.specs.declared.words.Played.TheVariants as played
 use Rattle.sample_meshes.specs.Block.{most_side}
-use Rattle.octopus.specs.Rings.{most_hops}
+use Rattle.command_words.specs.Hops.{most_hops}
 
 -- the coordinate that a word spells: a signed number from -2^30 to 2^30
 abbrev pub bound_of : List ℕ → Option ℤ

@@ -3,8 +3,8 @@ ghost use Rattle.std.specs.Prelude.{◌≡◌, ◌≤◌, map, IfSome};
 ghost use Rattle.mesh_base.specs.Place.{IsCoordinate};
 ghost use Rattle.std.specs.Option.{option_map};
 ghost use Rattle.std.specs.String.{string_bytes};
-ghost use Rattle.octopus.specs.declared.words.Command.TheVariants.{Scan, Box};
-ghost use Rattle.octopus.specs.Words.{bound_of, corner_of, area_from, query_of, how_of, cells_on, cells_of, rings_on, rings_of, surface_of, side_of, gen_of, step_command, upgrade_of, command_of, named_as, run_of, demo_of, watch_of, played_of, played_as};
+ghost use Rattle.command_words.specs.declared.words.Command.TheVariants.{Scan, Box};
+ghost use Rattle.command_words.specs.Words.{bound_of, corner_of, area_from, query_of, how_of, cells_on, cells_of, rings_on, rings_of, surface_of, side_of, gen_of, step_command, upgrade_of, command_of, named_as, run_of, demo_of, watch_of, played_of, played_as};
 
 use crate::hops::{Hops, MOST_HOPS};
 use cell_box::How;

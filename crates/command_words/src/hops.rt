@@ -1,6 +1,6 @@
 //! How far rings go.
 ghost use Rattle.std.specs.Prelude.{◌≡◌, ◌≤◌, ℕ};
-ghost use Rattle.octopus.specs.Rings.{most_hops};
+ghost use Rattle.command_words.specs.Hops.{most_hops};
 
 use std::marker::Model;
 
