@@ -7,7 +7,6 @@ ghost use Rattle.octopus.specs.Codes.{code_of};
 
 mod commands;
 mod deliver;
-mod demo_job;
 mod files;
 mod intake;
 mod lines;

@@ -4,9 +4,9 @@ ghost use Rattle.std.specs.Fmt.{decimal};
 ghost use Rattle.step_registry.specs.Core.{answers_of};
 ghost use Rattle.step_registry.specs.Lines.{of_session};
 ghost use Rattle.octopus.specs.Lines.{line};
-ghost use Rattle.octopus.specs.Demo.{answer_words, size_words, line_by, lines_by, summary_by, demo_head, demo_job, demo_text};
+ghost use Rattle.octopus.specs.Demo.{answer_words, size_words, line_by, lines_by, summary_by, demo_head, demo_text};
 
-use crate::demo_job::make_demo;
+use demo_job::make_demo;
 use mesh_base::{Answer, Mesh, NoMemory};
 use oct_edge::Gate;
 use oct_text::put_text;

@@ -1,7 +1,7 @@
 use Rattle.std.proofs.Common.{◌++◌, ◌∷◌, [], ap, ◌∙◌, replicate}
 use Rattle.std.proofs.lemmas.List.{replicate-append-replicate}
-use Rattle.octopus.specs.Demo.{demo_plan}
-use Rattle.octopus.proofs.demo_job.all_plans.Goals as goal
+use Rattle.demo_job.specs.Demo.{demo_plan}
+use Rattle.demo_job.proofs.make.all_plans.Goals as goal
 
 pub loop-preserved : goal.loop-preserved
 loop-preserved c =

@@ -2,9 +2,9 @@ use Rattle.std.proofs.Common.{ap, ◌∙◌, subst}
 use Rattle.run_script.specs.Outcome.{IsFault}
 use Rattle.run_script.specs.Jobs.{checked}
 use Rattle.sample_meshes.specs.Block.{block}
-use Rattle.octopus.specs.Demo.{demo_script}
-use Rattle.octopus.proofs.DemoLemmas.{job-from, no-fault}
-use Rattle.octopus.proofs.demo_job.make_demo.Goals as goal
+use Rattle.demo_job.specs.Demo.{demo_script}
+use Rattle.demo_job.proofs.DemoLemmas.{job-from, no-fault}
+use Rattle.demo_job.proofs.make.make_demo.Goals as goal
 
 pub unreachable-requires : goal.unreachable-requires
 unreachable-requires c =

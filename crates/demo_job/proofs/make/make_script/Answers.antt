@@ -1,8 +1,8 @@
 use Rattle.std.proofs.Common.{sym, subst, arith, replicate}
 use Rattle.run_script.specs.Scripts.{IsScript}
-use Rattle.octopus.specs.Demo.{demo_steps, demo_plan}
-use Rattle.octopus.proofs.DemoLemmas.{script-fits}
-use Rattle.octopus.proofs.demo_job.make_script.Goals as goal
+use Rattle.demo_job.specs.Demo.{demo_steps, demo_plan}
+use Rattle.demo_job.proofs.DemoLemmas.{script-fits}
+use Rattle.demo_job.proofs.make.make_script.Goals as goal
 
 pub of-requires : goal.of-requires
 of-requires c =

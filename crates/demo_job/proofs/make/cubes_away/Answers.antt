@@ -1,6 +1,6 @@
 use Rattle.std.proofs.Common.{◌*◌, w32, arith}
 use Rattle.std.proofs.lemmas.Int.{to_z_pos}
-use Rattle.octopus.proofs.demo_job.cubes_away.Goals as goal
+use Rattle.demo_job.proofs.make.cubes_away.Goals as goal
 
 pub returns : goal.returns
 returns c = to_z_pos w32 (16 * c.args.cubes) (omega arith)

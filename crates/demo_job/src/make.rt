@@ -1,7 +1,7 @@
 //! The job that `demo` plays.
 ghost use Rattle.std.specs.Prelude.{◌≡◌, ◌≤◌, ◌*◌, ◌/◌, ℤ, pos, neg_ℤ, IfOk, replicate};
 ghost use Rattle.mesh_base.specs.Place.{Place, IsPlace, IsArea};
-ghost use Rattle.octopus.specs.Demo.{between, edge, middle, whole_box, half_box, middle_box, demo_plan, demo_items, demo_script, demo_job, demo_steps, demo_sessions};
+ghost use Rattle.demo_job.specs.Demo.{between, edge, middle, whole_box, half_box, middle_box, demo_plan, demo_items, demo_script, demo_job, demo_steps, demo_sessions};
 
 use mesh_base::{BoxQ, Kernel, NoMemory, Point};
 use run_script::{EditList, Item, ItemList, Job, Plan, PlanList, Script, ScriptFault, SessionList};
