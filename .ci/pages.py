@@ -1,5 +1,6 @@
 #!/usr/bin/env python3
-"""Checks of the pages, after the gate: links, examples beside the built program, names of definitions, and the man page.
+"""Checks of the pages, after the gate: links, examples beside the built program, names of definitions, the man page, and that
+no sentence stands in two pages.
 
 Usage: .ci/pages.py [PROGRAM]      (without a program the examples are left out, and it says so)
 """
@@ -117,9 +118,28 @@ def check_crates() -> int:
     return len(crates)
 
 
+def sentences(page: pathlib.Path) -> set[str]:
+    """The sentences of a page with eight words or more, without its examples, tables and headings."""
+    lines = [line for line in page.read_text().splitlines() if not line.startswith(("    ", "|", "#", "```"))]
+    text = re.sub(r"\]\([^)\s]+\)", "]", "\n".join(lines))
+    parts = re.split(r"(?<=[.!?:])\s+|\n\s*\n|\n(?=[-*] )", text)
+    return {" ".join(part.split()).lstrip("-* ") for part in parts if len(part.split()) >= 8}
+
+
+def check_sentences() -> int:
+    """No sentence stands in two pages."""
+    seen: dict[str, pathlib.Path] = {}
+    for page in pages():
+        for sentence in sorted(sentences(page)):
+            if sentence in seen:
+                faults.append(f"{page.relative_to(TOP)} and {seen[sentence].relative_to(TOP)}: {sentence}")
+            seen[sentence] = page
+    return len(seen)
+
+
 def main() -> int:
     print(f"pages: {check_links()} links, {check_commands()} commands, {check_crates()} crates")
-    print(f"pages: {check_definitions()} names of definitions")
+    print(f"pages: {check_definitions()} names of definitions, {check_sentences()} sentences")
     program = pathlib.Path(sys.argv[1]).resolve() if len(sys.argv) > 1 else None
     if program and program.exists():
         print(f"pages: {check_examples(program)} examples run")
