@@ -6,7 +6,7 @@
 // The map finds a face of the points a < b < c by 32 bits: the low ones say in which group of twelve places the search
 // begins, the top eight are compared before the face itself, and a full group sends the search on to the next one.
 //
-// sums: against the hash of face_table, which follows from 3a + 2b + c and a + b + c alone. The faces
+// sums: against the hash that face_table had up to version 0.3.0, which followed from 3a + 2b + c and a + b + c alone. The faces
 // (t, B - 2t, C + t) for all t have one hash in all 32 bits, so each is compared with all of them that came before. Two
 // faces of a cell can be in such classes: (a, b, c) and (a, b, d). All cells of a layer share the first, and all five
 // layers the second: six classes of 200,000 faces in a mesh of 1,000,000 cells.
