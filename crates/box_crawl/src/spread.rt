@@ -28,7 +28,8 @@ fn look<L: Ledger>(
     requires tally { IsTally found.old.items marks.old }
     ensures len { length marks.new ≡ length marks.old }
     ensures tally { OnOk result (IsTally found.new.items marks.new) }
-    ensures items { OnOk result (found.new.items ≡ found.old.items ++ (if not (is_marked marks.old w) && is_inside area.now (place step.now.mesh w) then w ∷ [] else [])) }
+    ensures items { OnOk result (found.new.items ≡ found.old.items
+        ++ (if not (is_marked marks.old w) && is_inside area.now (place step.now.mesh w) then w ∷ [] else [])) }
     ensures reads { reads.new ≤ reads.old + 1 }
 {
     if !marks.is_marked(w) {
@@ -54,7 +55,8 @@ fn visit<L: Ledger>(
     ensures len { length marks.new ≡ length marks.old }
     ensures tally { OnOk result (IsTally found.new.items marks.new) }
     ensures more { OnOk result (IsMore step.now.mesh area.now v found.old.items found.new.items) }
-    ensures done { OnOk result ((w : ℕ) → Contains (neighbours step.now.mesh v) w → is_in step.now.mesh area.now w ≡ true → Contains found.new.items w) }
+    ensures done { OnOk result ((w : ℕ) → Contains (neighbours step.now.mesh v) w
+        → is_in step.now.mesh area.now w ≡ true → Contains found.new.items w) }
     ensures reads { reads.new ≤ reads.old + degree step.now.mesh v }
 {
     for w in step.neighbours(v) {
@@ -76,9 +78,12 @@ fn spread_all<L: Ledger>(
     requires tally { IsTally found.old.items marks.old }
     ensures len { length marks.new ≡ length marks.old }
     ensures tally { OnOk result (IsTally found.new.items marks.new) }
-    ensures every { OnOk result ((w : ℕ) → JoinedToOne step.now.mesh area.now found.old.items w → Contains found.new.items w) }
-    ensures only { OnOk result ((w : ℕ) → Contains found.new.items w → JoinedToOne step.now.mesh area.now found.old.items w) }
-    ensures reads { reads.new ≤ reads.old + degrees step.now.mesh area.now (joined_to step.now.mesh area.now found.old.items) }
+    ensures every { OnOk result ((w : ℕ) → JoinedToOne step.now.mesh area.now found.old.items w
+        → Contains found.new.items w) }
+    ensures only { OnOk result ((w : ℕ) → Contains found.new.items w
+        → JoinedToOne step.now.mesh area.now found.old.items w) }
+    ensures reads { reads.new ≤ reads.old + degrees step.now.mesh area.now
+        (joined_to step.now.mesh area.now found.old.items) }
 {
     let mut at = 0;
     while at < found.len() {
@@ -89,14 +94,15 @@ fn spread_all<L: Ledger>(
     Ok(())
 }
 
-/// The vertices that are joined to the seeds by paths from neighbour to neighbour inside the box, ascending. The seeds are
-/// among them.
+/// The vertices that are joined to the seeds by paths from neighbour to neighbour inside the box, ascending. The seeds
+/// are among them.
 ///
-/// The seeds are vertices inside, and may come more than once. The marks reach all points of the step. Any such marks will
-/// do, and they may be used again for any step that they reach, after NoMemory too.
+/// The seeds are vertices inside, and may come more than once. The marks reach all points of the step. Any such marks
+/// will do, and they may be used again for any step that they reach, after NoMemory too.
 ///
-/// It looks once at each vertex that it finds, reads at most one place for each neighbour of it, and sorts what it found,
-/// whatever the size of the mesh. Once in 2^32 - 1 crawls it passes over all marks. It takes memory for the list alone.
+/// It looks once at each vertex that it finds, reads at most one place for each neighbour of it, and sorts what it
+/// found, whatever the size of the mesh. Once in 2^32 - 1 crawls it passes over all marks. It takes memory for the list
+/// alone.
 pub fn crawl<L: Ledger>(
     alloc: Global,
     step: &Step,
@@ -110,7 +116,8 @@ pub fn crawl<L: Ledger>(
     ensures joined { IfOk result (IsListOf (JoinedToOne step.now.mesh area.now seeds.now)) }
     ensures list { IfOk result (λ list. list ≡ joined_to step.now.mesh area.now seeds.now) }
     ensures len { length scratch.new ≡ length scratch.old }
-    ensures reads { reads.new ≤ reads.old + degrees step.now.mesh area.now (joined_to step.now.mesh area.now seeds.now) }
+    ensures reads { reads.new ≤ reads.old + degrees step.now.mesh area.now
+        (joined_to step.now.mesh area.now seeds.now) }
 {
     scratch.clear();
     let mut found = Vec::new(alloc);

@@ -1,4 +1,5 @@
-//! How many places are read for boxes of a cell that was split twice. A count is a proof: nothing is counted when it runs.
+//! How many places are read for boxes of a cell that was split twice. A count is a proof: nothing is counted when it
+//! runs.
 ghost use Rattle.std.specs.Prelude.{◌≡◌, ◌<◌, ◌≤◌, [], ◌∷◌, length, IfOk};
 ghost use Rattle.mesh_base.specs.Samples.{at, box, split_twice};
 ghost use Rattle.mesh_base.specs.declared.answer.Route.TheVariants.{Probe, Walk, Scan};
@@ -11,8 +12,8 @@ use std::alloc::Global;
 use std::sync::ledger::{Blank, Ledger};
 use step_view::{Step, Steps};
 
-/// A box round one vertex in the middle is answered by at most 20 reads: 4 of the surface, 1 + 5 + 5 of the walk, and 5 of
-/// what it finds.
+/// A box round one vertex in the middle is answered by at most 20 reads: 4 of the surface, 1 + 5 + 5 of the walk, and 5
+/// of what it finds.
 pub fn inner_reads<L: Ledger>(
     alloc: Global,
     blank: Blank,
@@ -63,7 +64,8 @@ pub fn far_reads<L: Ledger>(
     Ok(answer)
 }
 
-/// A box with one vertex of the surface inside is answered by at most 8 reads: 4 of the surface, and 4 of what it finds.
+/// A box with one vertex of the surface inside is answered by at most 8 reads: 4 of the surface, and 4 of what it
+/// finds.
 pub fn front_reads<L: Ledger>(
     alloc: Global,
     blank: Blank,

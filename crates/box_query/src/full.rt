@@ -26,7 +26,8 @@ fn put_inside<L: Ledger>(
     reads: &mut Steps<L>,
 ) -> Result<(), NoMemory>
     requires { v < length step.now.mesh.points }
-    ensures items { OnOk result (found.new.items ≡ found.old.items ++ (if is_in step.now.mesh area.now v then v ∷ [] else [])) }
+    ensures items { OnOk result (found.new.items ≡ found.old.items
+        ++ (if is_in step.now.mesh area.now v then v ∷ [] else [])) }
     ensures reads { reads.new ≡ reads.old + (if is_vertex step.now.mesh.cells v then 1 else 0) }
 {
     if is_vertex(step, v) {

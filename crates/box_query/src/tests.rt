@@ -58,7 +58,8 @@ fn boxes_of_a_split_cell(rt: HostRuntime) -> Result<(), Fail> {
 #[test]
 fn boxes_of_small_meshes(rt: HostRuntime) -> Result<(), Fail> {
     let alloc = rt.alloc();
-    // The same cell twice, each four of five points, two cells with a face in common, a point that no cell has, nothing.
+    // The same cell twice, each four of five points, two cells with a face in common, a point that no cell has,
+    // nothing.
     let table: [(&[[i32; 3]], &[[u32; 4]], [i32; 3], Route, &[u32]); 5] = [
         (
             &[[0, 0, 0], [4, 0, 0], [0, 4, 0], [0, 0, 4]],

@@ -12,9 +12,11 @@ is_wanted s (Some q) w = (w.session == s) && (q == w.query)
 abbrev pub chain_below : List Watch → ℕ → ℕ → Option ℕ → List ℕ
 chain_below all zero s wanted = []
 chain_below all (suc n) s wanted =
-    if is_wanted s wanted (watch_at all n) then n ∷ chain_below all n s (watch_at all n).prior else chain_below all n s wanted
+    if is_wanted s wanted (watch_at all n) then n ∷ chain_below all n s (watch_at all n).prior
+    else chain_below all n s wanted
 
 -- the list that the watches at these places make, the first place being the last watch
 abbrev pub IsMadeBy : List Watch → List ℕ → List ℕ → Type 0
 IsMadeBy all [] vs = vs ≡ []
-IsMadeBy all (place ∷ places) vs = (before : List ℕ) × IsMadeBy all places before × IsAfter before (watch_at all place) vs
+IsMadeBy all (place ∷ places) vs = (before : List ℕ) × IsMadeBy all places before
+    × IsAfter before (watch_at all place) vs

@@ -24,4 +24,5 @@ prior_at priors q = slice_index_or priors q None
 
 -- the watches of a session, where each box was asked before by this list
 abbrev pub watches_since : ℕ → List Answer → List (Option ℕ) → List Watch
-watches_since s answers priors = map (λ q. watch_since s answers q (prior_at priors q)) (range_with_len 0 (length priors))
+watches_since s answers priors = map (λ q. watch_since s answers q (prior_at priors q))
+    (range_with_len 0 (length priors))

@@ -35,7 +35,8 @@ pub record IsWatchList (all : List Watch) : Type 0 where
   pub entered : All (λ w. IsStrictlyIncreasing w.entered) all
   pub left : All (λ w. IsStrictlyIncreasing w.left) all
   -- the box before is that of an earlier watch
-  pub earlier : (i q : ℕ) → i < length all → (watch_at all i).prior ≡ Some q → IsWatched all i (watch_at all i).session q
+  pub earlier : (i q : ℕ) → i < length all → (watch_at all i).prior ≡ Some q
+      → IsWatched all i (watch_at all i).session q
 
 -- the vertices that a history's answers give each box
 abbrev pub answered : JobView → List Event → ℕ → ℕ → List ℕ

@@ -35,8 +35,8 @@ watched_text job h =
     ++ flat_map (watched_session job h) (range_with_len 0 (length job.sessions))
     ++ journal_text h ++ line (codes "end")
 
--- The text is that of the history that its journal lines print, that history is whole, and all that a whole run keeps is
--- true of it.
+-- The text is that of the history that its journal lines print, that history is whole, and all that a whole run keeps
+-- is true of it.
 pub record Watches (job : JobView) (text : List ℕ) : Type 0 where
   pub history : List Event
   pub printed : printed_journal text ≡ Some history

@@ -58,8 +58,10 @@ fn follow(
     watch: &Watch,
     place: usize,
 ) -> Result<Option<u32>, NoMemory>
-    ensures chain { OnOk result (chain.new.items ≡ chain.old.items ++ (if is_wanted session wanted watch.now then place ∷ [] else [])) }
-    ensures wanted { IfOk result (λ next. next ≡ (if is_wanted session wanted watch.now then watch.now.prior else wanted)) }
+    ensures chain { OnOk result (chain.new.items ≡ chain.old.items
+        ++ (if is_wanted session wanted watch.now then place ∷ [] else [])) }
+    ensures wanted { IfOk result (λ next. next ≡ (if is_wanted session wanted watch.now then watch.now.prior
+        else wanted)) }
 {
     if is_wanted_here(session, wanted, watch) {
         chain.push(place)?;
@@ -72,7 +74,8 @@ fn follow(
 // The places of a watch and of the watches before it that lead to it, from the last to the first.
 fn list_chain(alloc: Global, all: &[Watch], at: usize) -> Result<Vec<usize>, NoMemory>
     requires { at < length all.now }
-    ensures { IfOk result (λ chain. chain.items ≡ at ∷ chain_below all.now at (watch_at all.now at).session (watch_at all.now at).prior) }
+    ensures { IfOk result (λ chain. chain.items ≡ at
+        ∷ chain_below all.now at (watch_at all.now at).session (watch_at all.now at).prior) }
 {
     let session = all[at].session;
     let mut wanted = all[at].prior;
@@ -109,14 +112,16 @@ fn replay_chain(alloc: Global, all: &[Watch], chain: &[usize]) -> Result<Vec<u32
 
 /// The vertices of the box that the watch at a place is of, ascending, from the watches alone.
 ///
-/// It goes back once over the watches before that place, and then once over what entered and left in each watch that leads to it.
-/// A table that gives each watched box what its watch makes of the box before has these vertices for it. So from the watches of
-/// a run it gives the vertices of the box's answer.
+/// It goes back once over the watches before that place, and then once over what entered and left in each watch that
+/// leads to it. A table that gives each watched box what its watch makes of the box before has these vertices for it.
+/// So from the watches of a run it gives the vertices of the box's answer.
 pub fn replay(alloc: Global, all: &[Watch], at: usize) -> Result<VertexList, NoMemory>
     requires there { at < length all.now }
     requires list { IsWatchList all.now }
-    ensures made { IfOk result (λ vertices. IsMadeBy all.now (at ∷ chain_below all.now at (watch_at all.now at).session (watch_at all.now at).prior) vertices) }
-    ensures follows { IfOk result (λ vertices. (table : ℕ → ℕ → List ℕ) → Follows all.now table → vertices ≡ table (watch_at all.now at).session (watch_at all.now at).query) }
+    ensures made { IfOk result (λ vertices. IsMadeBy all.now
+        (at ∷ chain_below all.now at (watch_at all.now at).session (watch_at all.now at).prior) vertices) }
+    ensures follows { IfOk result (λ vertices. (table : ℕ → ℕ → List ℕ) → Follows all.now table
+        → vertices ≡ table (watch_at all.now at).session (watch_at all.now at).query) }
 {
     let chain = list_chain(alloc, all, at)?;
     let vertices = replay_chain(alloc, all, &chain)?;

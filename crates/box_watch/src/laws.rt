@@ -8,8 +8,8 @@ ghost use Rattle.box_watch.specs.Watches.{watches_of};
 ghost use Rattle.box_watch.specs.Replay.{IsWatchList, Follows, answered};
 ghost use Rattle.box_watch.specs.WatchText.{watched_text, Watches};
 
-/// What each watch of a whole history makes of the answer of the box before is the answer of its box. So whoever keeps the
-/// watches has the answers.
+/// What each watch of a whole history makes of the answer of the box before is the answer of its box. So whoever keeps
+/// the watches has the answers.
 pub fn answers_are_replayed()
     ensures { (job : JobView) (h : List Event) → IsWhole job h → Follows (watches_of job h) (answered job h) }
 {}

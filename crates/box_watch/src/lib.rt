@@ -1,7 +1,9 @@
-//! What entered and what left each box of a session since the same box was last asked, and the answers again from that alone.
+//! What entered and what left each box of a session since the same box was last asked, and the answers again from that
+//! alone.
 //!
-//! `watches` makes one watch for each box of a run, `replay` gives a box's vertices again from the watches, and `watch_text` and
-//! `whole_watch` print them. The definitions stand in `specs/`; the functions of `laws` have what follows from them.
+//! `watches` makes one watch for each box of a run, `replay` gives a box's vertices again from the watches, and
+//! `watch_text` and `whole_watch` print them. The definitions stand in `specs/`; the functions of `laws` have what
+//! follows from them.
 #![tactic(auto)]
 
 mod again;

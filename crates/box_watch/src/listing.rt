@@ -25,8 +25,8 @@ pub(crate) fn session_list(
 
 /// One watch for each box of a run whose journal is whole, by session and then by box.
 ///
-/// For each session it goes once over all answers. It finds the box before by one look-up for each box, and compares the two
-/// in one pass over both lists. `replay` may be called on the list, and gives each box its answer's vertices.
+/// For each session it goes once over all answers. It finds the box before by one look-up for each box, and compares
+/// the two in one pass over both lists. `replay` may be called on the list, and gives each box its answer's vertices.
 pub fn watches(alloc: Global, registry: &Registry) -> Result<WatchList, NoMemory>
     requires { IsWhole registry.now.job registry.now.journal }
     ensures watches { IfOk result (λ list. list ≡ watches_of registry.now.job registry.now.journal) }

@@ -15,7 +15,8 @@ fn push_if_own(
     session: u32,
     place: usize,
 ) -> Result<(), NoMemory>
-    ensures { OnOk result (places.new.items ≡ places.old.items ++ (if answer.now.session == session then place ∷ [] else [])) }
+    ensures { OnOk result (places.new.items ≡ places.old.items
+        ++ (if answer.now.session == session then place ∷ [] else [])) }
 {
     if answer.session == session {
         places.push(place)?;

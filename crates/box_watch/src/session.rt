@@ -55,7 +55,8 @@ fn list_since(
     requires ascending { All (λ a. IsStrictlyIncreasing a.vertices) answers.now }
     requires few { length priors.now ≤ 100000 }
     requires answered { length priors.now ≡ length (own_answers session answers.now) }
-    requires before { (q : ℕ) → q < length priors.now → IfSome (prior_at priors.now q) (λ p. p < length (own_answers session answers.now)) }
+    requires before { (q : ℕ) → q < length priors.now
+        → IfSome (prior_at priors.now q) (λ p. p < length (own_answers session answers.now)) }
     ensures { IfOk result (λ list. list.items ≡ watches_since session (own_answers session answers.now) priors.now) }
 {
     let mut list = Vec::with_capacity(alloc, priors.len())?;
@@ -68,8 +69,8 @@ fn list_since(
 
 /// The watches of a session, box by box, by all answers of a run.
 ///
-/// It goes over all answers once, looks each box up once, and goes once over the vertices of each box and of the one before it
-/// with equal corners.
+/// It goes over all answers once, looks each box up once, and goes once over the vertices of each box and of the one
+/// before it with equal corners.
 pub fn list_session(
     alloc: Global,
     job: &Job,
@@ -79,7 +80,8 @@ pub fn list_session(
     requires there { session < length job.now.sessions }
     requires ascending { All (λ a. IsStrictlyIncreasing a.vertices) answers.now }
     requires answered { length (own_answers session answers.now) ≡ length (boxes_of job.now session) }
-    ensures { IfOk result (λ list. list.items ≡ watches_by session (boxes_of job.now session) (own_answers session answers.now)) }
+    ensures { IfOk result (λ list. list.items ≡ watches_by session (boxes_of job.now session)
+        (own_answers session answers.now)) }
 {
     let boxes = list_boxes(alloc, job.turns(session))?;
     let priors = list_priors(alloc, &boxes)?;

@@ -18,7 +18,8 @@ use step_registry::Registry;
 
 // Which box it is, at which step it was asked.
 fn put_place(alloc: Global, out: &mut Vec<u8>, watch: &Watch) -> Result<(), NoMemory>
-    ensures { OnOk result (out.new.items ≡ out.old.items ++ (codes "box " ++ decimal watch.now.query ++ codes " step " ++ decimal watch.now.step)) }
+    ensures { OnOk result (out.new.items ≡ out.old.items
+        ++ (codes "box " ++ decimal watch.now.query ++ codes " step " ++ decimal watch.now.step)) }
 {
     put_labelled(alloc, out, b"box ", u64::from(watch.query))?;
     put_labelled(alloc, out, b" step ", u64::from(watch.step))
@@ -36,7 +37,8 @@ fn put_prior(alloc: Global, out: &mut Vec<u8>, prior: Option<u32>) -> Result<(),
 
 // How many entered and how many left, and a line feed.
 fn put_counts(alloc: Global, out: &mut Vec<u8>, entered: usize, left: usize) -> Result<(), NoMemory>
-    ensures { OnOk result (out.new.items ≡ out.old.items ++ line (codes " entered " ++ decimal entered ++ codes " left " ++ decimal left)) }
+    ensures { OnOk result (out.new.items ≡ out.old.items
+        ++ line (codes " entered " ++ decimal entered ++ codes " left " ++ decimal left)) }
 {
     put_labelled(alloc, out, b" entered ", entered as u64)?;
     put_labelled_line(alloc, out, b" left ", left as u64)
@@ -84,7 +86,8 @@ fn put_session(
 ) -> Result<(), NoMemory>
     requires whole { IsWhole registry.now.job registry.now.journal }
     requires there { session < length registry.now.job.sessions }
-    ensures { OnOk result (out.new.items ≡ out.old.items ++ watched_session registry.now.job registry.now.journal session) }
+    ensures { OnOk result (out.new.items ≡ out.old.items
+        ++ watched_session registry.now.job registry.now.journal session) }
 {
     let list = session_list(alloc, registry, session)?;
     put_session_line(alloc, out, registry.job(), session)?;
@@ -94,7 +97,9 @@ fn put_session(
 // The parts of all sessions.
 fn put_sessions(alloc: Global, out: &mut Vec<u8>, registry: &Registry) -> Result<(), NoMemory>
     requires { IsWhole registry.now.job registry.now.journal }
-    ensures { OnOk result (out.new.items ≡ out.old.items ++ flat_map (watched_session registry.now.job registry.now.journal) (range_with_len 0 (length registry.now.job.sessions))) }
+    ensures { OnOk result (out.new.items ≡ out.old.items
+        ++ flat_map (watched_session registry.now.job registry.now.journal)
+        (range_with_len 0 (length registry.now.job.sessions))) }
 {
     for session in 0..registry.job().sessions() {
         put_session(alloc, out, registry, session)?;
@@ -104,7 +109,8 @@ fn put_sessions(alloc: Global, out: &mut Vec<u8>, registry: &Registry) -> Result
 
 // The text up to the sessions.
 fn put_head(alloc: Global, out: &mut Vec<u8>, registry: &Registry) -> Result<(), NoMemory>
-    ensures { OnOk result (out.new.items ≡ out.old.items ++ (line (codes "octopus watch 1") ++ sizes_text registry.now.job)) }
+    ensures { OnOk result (out.new.items ≡ out.old.items
+        ++ (line (codes "octopus watch 1") ++ sizes_text registry.now.job)) }
 {
     put_text(alloc, out, b"octopus watch 1\n")?;
     put_sizes(alloc, out, registry.job())
@@ -126,8 +132,8 @@ fn text_of(alloc: Global, registry: &Registry) -> Result<Vec<u8>, NoMemory>
 
 /// The text of the watches of a run whose journal is whole.
 ///
-/// The text's journal lines print the journal, and all that is said of a whole run is true of it. It makes the watches of one
-/// session at a time.
+/// The text's journal lines print the journal, and all that is said of a whole run is true of it. It makes the watches
+/// of one session at a time.
 pub fn whole_watch(alloc: Global, registry: &Registry) -> Result<Vec<u8>, NoMemory>
     requires { IsWhole registry.now.job registry.now.journal }
     ensures text { IfOk result (λ text. text.items ≡ watched_text registry.now.job registry.now.journal) }

@@ -42,7 +42,8 @@ sum_to counts (suc v) = sum_to counts v + slice_index counts (v + 1)
 pub record IsPlaced (all done : List Corner) (starts numbers : List ℕ) : Type 0 where
   pub first : slice_index starts 0 ≡ 0
   pub ends : (v : ℕ) → v + 1 < length starts → slice_index starts (v + 1) ≡ start_of all v + length (row_of v done)
-  pub items : (v k : ℕ) → v + 1 < length starts → k < length (row_of v done) → slice_index numbers (start_of all v + k) ≡ slice_index (row_of v done) k
+  pub items : (v k : ℕ) → v + 1 < length starts → k < length (row_of v done)
+      → slice_index numbers (start_of all v + k) ≡ slice_index (row_of v done) k
 
 -- the rows do not go back, and end in the list
 pub record AreRows (starts numbers : List ℕ) : Type 0 where
@@ -53,4 +54,5 @@ pub record AreRows (starts numbers : List ℕ) : Type 0 where
 
 -- the parts of the list from each start to the next one
 abbrev pub rows_between : List ℕ → List ℕ → List (List ℕ)
-rows_between starts numbers = map (λ v. slice_range numbers (slice_index starts v) (slice_index starts (v + 1))) (range_with_len 0 (length starts - 1))
+rows_between starts numbers = map (λ v. slice_range numbers (slice_index starts v) (slice_index starts (v + 1)))
+    (range_with_len 0 (length starts - 1))

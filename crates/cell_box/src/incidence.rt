@@ -10,8 +10,8 @@ use std::marker::Model;
 use step_view::Step;
 use topo::Shape;
 
-/// For each point the live cells that have it, ascending: all rows in one list, and where each row begins. It takes 8 bytes
-/// a point and 16 bytes a live cell.
+/// For each point the live cells that have it, ascending: all rows in one list, and where each row begins. It takes 8
+/// bytes a point and 16 bytes a live cell.
 ///
 /// Contracts see the list of the rows.
 #[derive(Drop)]
@@ -43,7 +43,8 @@ impl Incidence {
         Ok(Incidence { starts, numbers })
     }
 
-    /// The incidence of a step's mesh. It goes twice over the cells and once over the points, and copies no list of cells.
+    /// The incidence of a step's mesh. It goes twice over the cells and once over the points, and copies no list of
+    /// cells.
     pub fn build(alloc: Global, step: &Step) -> Result<Incidence, NoMemory>
         ensures { IfOk result (λ incidence. incidence ≡ incidence_of step.now.mesh) }
     {

@@ -1,5 +1,5 @@
-//! The cells of each point, gathered by counting: how many there are, where each row begins, and then each cell at the next
-//! place of its rows.
+//! The cells of each point, gathered by counting: how many there are, where each row begins, and then each cell at the
+//! next place of its rows.
 ghost use Rattle.std.specs.Prelude.{◌≡◌, ℕ, ◌+◌, ◌-◌, ◌<◌, ◌≤◌, ◌^◌, List, [], length, replicate, slice_index, IfOk};
 ghost use Rattle.mesh_base.specs.Mesh.{AreWithin};
 ghost use Rattle.cell_box.specs.Rows.{IsCounted, IsPlaced, corners_before, start_of, sum_to};
@@ -54,8 +54,10 @@ fn sum_up(starts: &mut [usize]) -> usize
 // Where the row of each point begins, at the place behind its number, and 0 in front. Beside it, how long all rows are.
 pub(crate) fn starts_of(alloc: Global, shape: &Shape) -> Result<(Vec<usize>, usize), NoMemory>
     ensures len { IfOk result (λ r. length r.0.items ≡ shape.now.points + 1) }
-    ensures total { IfOk result (λ r. r.1 ≡ start_of (corners_before shape.now.cells (length shape.now.cells)) shape.now.points) }
-    ensures placed { IfOk result (λ r. (numbers : List ℕ) → IsPlaced (corners_before shape.now.cells (length shape.now.cells)) [] r.0.items numbers) }
+    ensures total { IfOk result (λ r. r.1 ≡ start_of
+        (corners_before shape.now.cells (length shape.now.cells)) shape.now.points) }
+    ensures placed { IfOk result (λ r. (numbers : List ℕ)
+        → IsPlaced (corners_before shape.now.cells (length shape.now.cells)) [] r.0.items numbers) }
 {
     let _cells = shape.cells();
     let points = shape.points() as usize;
@@ -71,9 +73,12 @@ fn place_cell(shape: &Shape, i: u32, starts: &mut [usize], numbers: &mut [u32])
     requires cell { i < length shape.now.cells }
     requires few { length shape.now.cells ≤ MOST_CELLS }
     requires within { AreWithin (length starts.old - 1) shape.now.cells }
-    requires room { length numbers.old ≡ start_of (corners_before shape.now.cells (length shape.now.cells)) (length starts.old - 1) }
-    requires placed { IsPlaced (corners_before shape.now.cells (length shape.now.cells)) (corners_before shape.now.cells i) starts.old numbers.old }
-    ensures placed { IsPlaced (corners_before shape.now.cells (length shape.now.cells)) (corners_before shape.now.cells (i + 1)) starts.new numbers.new }
+    requires room { length numbers.old ≡ start_of (corners_before shape.now.cells (length shape.now.cells))
+        (length starts.old - 1) }
+    requires placed { IsPlaced (corners_before shape.now.cells (length shape.now.cells))
+        (corners_before shape.now.cells i) starts.old numbers.old }
+    ensures placed { IsPlaced (corners_before shape.now.cells (length shape.now.cells))
+        (corners_before shape.now.cells (i + 1)) starts.new numbers.new }
 {
     if let Some(cell) = shape.cell(i) {
         for v in cell.corners() {
@@ -87,9 +92,12 @@ fn place_cell(shape: &Shape, i: u32, starts: &mut [usize], numbers: &mut [u32])
 // Places all cells.
 pub(crate) fn place_all(shape: &Shape, starts: &mut [usize], numbers: &mut [u32])
     requires points { length starts.old ≡ shape.now.points + 1 }
-    requires room { length numbers.old ≡ start_of (corners_before shape.now.cells (length shape.now.cells)) (length starts.old - 1) }
-    requires placed { IsPlaced (corners_before shape.now.cells (length shape.now.cells)) (corners_before shape.now.cells 0) starts.old numbers.old }
-    ensures placed { IsPlaced (corners_before shape.now.cells (length shape.now.cells)) (corners_before shape.now.cells (length shape.now.cells)) starts.new numbers.new }
+    requires room { length numbers.old ≡ start_of (corners_before shape.now.cells (length shape.now.cells))
+        (length starts.old - 1) }
+    requires placed { IsPlaced (corners_before shape.now.cells (length shape.now.cells))
+        (corners_before shape.now.cells 0) starts.old numbers.old }
+    ensures placed { IsPlaced (corners_before shape.now.cells (length shape.now.cells))
+        (corners_before shape.now.cells (length shape.now.cells)) starts.new numbers.new }
 {
     for i in 0..shape.cells() {
         place_cell(shape, i, starts, numbers);

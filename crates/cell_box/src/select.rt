@@ -19,7 +19,8 @@ use step_view::Step;
 // The cells of these points, one row after the other: a cell comes once for each of its corners there.
 fn gather(alloc: Global, incidence: &Incidence, inside: &[u32]) -> Result<Vec<u32>, NoMemory>
     requires points { (v : ℕ) → Contains inside.now v → v < length incidence.now }
-    ensures { IfOk result (λ found. (i : ℕ) → times found.items i ≡ sum_by (λ v. times (slice_index_or incidence.now v []) i) inside.now) }
+    ensures { IfOk result (λ found. (i : ℕ) → times found.items i
+        ≡ sum_by (λ v. times (slice_index_or incidence.now v []) i) inside.now) }
 {
     let mut found = Vec::new(alloc);
     for v in inside {
@@ -33,8 +34,8 @@ fn gather(alloc: Global, incidence: &Incidence, inside: &[u32]) -> Result<Vec<u3
 ///
 /// The vertices are ascending without repeats, and the incidence is that of the step.
 ///
-/// It looks at the cells of these vertices alone, whatever the size of the mesh: it gathers them, 4 bytes for each vertex of
-/// each cell, and sorts them once.
+/// It looks at the cells of these vertices alone, whatever the size of the mesh: it gathers them, 4 bytes for each
+/// vertex of each cell, and sorts them once.
 pub fn cells_of(
     alloc: Global,
     step: &Step,
@@ -53,10 +54,11 @@ pub fn cells_of(
     Ok(CellNumbers::of(often(alloc, &gathered, how.least())?))
 }
 
-/// How a box is answered on a step, and the live cells all of whose corners, or at least one, are in the answer. Where the
-/// box is covered, they are those of its scan.
+/// How a box is answered on a step, and the live cells all of whose corners, or at least one, are in the answer. Where
+/// the box is covered, they are those of its scan.
 ///
-/// The marks reach all points of the step, and the incidence is that of the step. It costs what the answer and its cells do.
+/// The marks reach all points of the step, and the incidence is that of the step. It costs what the answer and its
+/// cells do.
 pub fn cells_in(
     alloc: Global,
     step: &Step,
@@ -69,7 +71,8 @@ pub fn cells_in(
     requires reach { length step.now.mesh.points ≤ length scratch.old }
     ensures route { IfOk result (λ r. r.0 ≡ route step.now.mesh area.now) }
     ensures cells { IfOk result (λ r. r.1 ≡ cells_by how step.now.mesh (answer step.now.mesh area.now)) }
-    ensures covered { IfOk result (λ r. IsCovered step.now.mesh area.now → r.1 ≡ cells_by how step.now.mesh (scan step.now.mesh area.now)) }
+    ensures covered { IfOk result (λ r. IsCovered step.now.mesh area.now
+        → r.1 ≡ cells_by how step.now.mesh (scan step.now.mesh area.now)) }
     ensures len { length scratch.new ≡ length scratch.old }
 {
     let (route, inside) = answer_plain(alloc, step, area, scratch)?;

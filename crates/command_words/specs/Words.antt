@@ -36,12 +36,14 @@ area_from None hi = None
 
 -- a command on a mesh and a box, by the words MESH x0 y0 z0 x1 y1 z1
 abbrev pub query_of : (List ℕ → Area → Command (List ℕ)) → List (List ℕ) → Option (Command (List ℕ))
-query_of make (mesh ∷ x0 ∷ y0 ∷ z0 ∷ x1 ∷ y1 ∷ z1 ∷ []) = option_map (make mesh) (area_from (corner_of x0 y0 z0) (corner_of x1 y1 z1))
+query_of make (mesh ∷ x0 ∷ y0 ∷ z0 ∷ x1 ∷ y1 ∷ z1 ∷ []) = option_map (make mesh)
+    (area_from (corner_of x0 y0 z0) (corner_of x1 y1 z1))
 query_of make _ = None
 
 -- which cells a word asks for: those whole in the answer, or those that it touches
 unfoldable pub how_of : List ℕ → Option How
-how_of word = if bytes_eq word (codes "all") then Some Whole else if bytes_eq word (codes "some") then Some Touching else None
+how_of word = if bytes_eq word (codes "all") then Some Whole else if bytes_eq word (codes "some") then Some Touching
+    else None
 
 abbrev pub cells_from : List ℕ → Option Area → Option How → Option (Command (List ℕ))
 cells_from mesh (Some area) (Some how) = Some (commands.Cells mesh area how)
@@ -50,7 +52,8 @@ cells_from mesh None how = None
 
 -- the words behind the mesh of `cells`: x0 y0 z0 x1 y1 z1, and `all` or `some`
 abbrev pub cells_on : List ℕ → List (List ℕ) → Option (Command (List ℕ))
-cells_on mesh (x0 ∷ y0 ∷ z0 ∷ x1 ∷ y1 ∷ z1 ∷ how ∷ []) = cells_from mesh (area_from (corner_of x0 y0 z0) (corner_of x1 y1 z1)) (how_of how)
+cells_on mesh (x0 ∷ y0 ∷ z0 ∷ x1 ∷ y1 ∷ z1 ∷ how ∷ []) = cells_from mesh
+    (area_from (corner_of x0 y0 z0) (corner_of x1 y1 z1)) (how_of how)
 cells_on mesh _ = None
 
 -- the words behind `cells`: MESH, and those
@@ -65,7 +68,8 @@ rings_from mesh None most = None
 
 -- the words behind the mesh of `rings`: x0 y0 z0 x1 y1 z1 H, H a count of at most 1,000
 abbrev pub rings_on : List ℕ → List (List ℕ) → Option (Command (List ℕ))
-rings_on mesh (x0 ∷ y0 ∷ z0 ∷ x1 ∷ y1 ∷ z1 ∷ h ∷ []) = rings_from mesh (area_from (corner_of x0 y0 z0) (corner_of x1 y1 z1)) (result_ok (count_of h most_hops))
+rings_on mesh (x0 ∷ y0 ∷ z0 ∷ x1 ∷ y1 ∷ z1 ∷ h ∷ []) = rings_from mesh
+    (area_from (corner_of x0 y0 z0) (corner_of x1 y1 z1)) (result_ok (count_of h most_hops))
 rings_on mesh _ = None
 
 -- the words behind `rings`: MESH, and those

@@ -1,7 +1,7 @@
 //! The words of a command line: the commands that they spell, and no other.
 //!
-//! A command carries the names of its files. They are a type parameter, so that a contract compares the command that was read
-//! with the one that the words spell.
+//! A command carries the names of its files. They are a type parameter, so that a contract compares the command that
+//! was read with the one that the words spell.
 #![tactic(auto)]
 
 mod hops;

@@ -8,7 +8,8 @@ use Rattle.corner_ranges.specs.Ranges.{range_of, corners_in}
 
 -- a corner of the cell is at a point of the range
 abbrev pub reaches : Option Corners → ℕ → Bool
-reaches cell range = option_map_or (λ c. (range_of c.0 == range) || (range_of c.1 == range) || (range_of c.2 == range) || (range_of c.3 == range)) cell false
+reaches cell range = option_map_or (λ c. (range_of c.0 == range) || (range_of c.1 == range)
+    || (range_of c.2 == range) || (range_of c.3 == range)) cell false
 
 -- the numbers that are listed for a range
 abbrev pub listed : List (Vec ℕ Global) → ℕ → List ℕ
@@ -20,7 +21,8 @@ visit_share g range cells i = sum_by g (corners_in range (cell_at cells i ∷ []
 
 -- the cells with these numbers have all corners that are at points of the range
 abbrev pub HaveRange : List (Option Corners) → ℕ → List ℕ → Type 0
-HaveRange cells range numbers = (g : Corners → ℕ) → sum_by (visit_share g range cells) numbers ≡ sum_by g (corners_in range cells)
+HaveRange cells range numbers = (g : Corners → ℕ)
+    → sum_by (visit_share g range cells) numbers ≡ sum_by g (corners_in range cells)
 
 -- so have those that are listed for each range
 abbrev pub HaveRanges : List (Option Corners) → ℕ → List (Vec ℕ Global) → Type 0

@@ -1,5 +1,6 @@
 //! Corners of cells.
-ghost use Rattle.std.specs.Prelude.{◌≡◌, [], ◌∷◌};
+ghost use Rattle.std.specs.Prelude.{◌≡◌, [], ◌∷◌, slice_get, option_and_then};
+ghost use Rattle.std.specs.Option.{option_map};
 ghost use Rattle.mesh_base.specs.Mesh.{AreDifferent};
 
 use std::marker::Model;
@@ -51,5 +52,15 @@ impl Corner {
         ensures different { AreDifferent self.now }
     {
         [self.point, self.first, self.second, self.third]
+    }
+}
+
+/// The point of the corner in slot i, if the slot is there and not empty.
+pub fn point_at(slots: &[Option<Corner>], i: usize) -> Option<u32>
+    ensures { result ≡ option_and_then (option_map (λ corner. corner.0)) (slice_get slots.now i) }
+{
+    match slots.get(i) {
+        Some(Some(corner)) => Some(corner.point()),
+        _ => None,
     }
 }

@@ -11,7 +11,7 @@ mod ranges;
 mod slots;
 mod visits;
 
-pub use corner::Corner;
+pub use corner::{Corner, point_at};
 pub use ranges::CornerRanges;
 
 /// How many points a range has. The corners of so many points, some 24 each, take about 16 MB.

@@ -4,12 +4,11 @@
 //! is, and the corner gets a new one. So nothing rests on the order, and each corner has exactly one slot.
 ghost use Rattle.std.specs.Prelude.{◌≡◌, ℕ, ◌+◌, ◌==◌, [], ◌∷◌, filter, sum_by, OnOk};
 ghost use Rattle.mesh_base.specs.Mesh.{Corners, AreDifferent};
-ghost use Rattle.mesh_base.specs.Edit.{cell_at};
 ghost use Rattle.corner_ranges.specs.Ranges.{range_of, corners_in, slot_share};
 ghost use Rattle.corner_ranges.specs.Visits.{visit_share};
 
 use crate::{Corner, RANGE};
-use mesh_base::{Cell, NoMemory};
+use mesh_base::{Cell, NoMemory, live_cell};
 use std::alloc::Global;
 
 // One more for each corner of the cell, at the place after its point.
@@ -122,16 +121,6 @@ fn put_cell(
             put_corner(next, slots, range, d, a, b, c)
         }
         None => Ok(()),
-    }
-}
-
-// Cell i, if it is there and live.
-fn live_cell(cells: &[Option<Cell>], i: usize) -> Option<Cell>
-    ensures { result ≡ cell_at cells.now i }
-{
-    match cells.get(i) {
-        Some(cell) => *cell,
-        None => None,
     }
 }
 

@@ -35,7 +35,8 @@ abbrev pub half_box : ℕ → Area
 half_box n = between (neg_ℤ (pos 8), neg_ℤ (pos 8), neg_ℤ (pos 8)) (middle n +ℤ pos 8, edge n +ℤ pos 8, edge n +ℤ pos 8)
 
 abbrev pub middle_box : ℕ → Area
-middle_box n = between (middle n -ℤ pos 8, middle n -ℤ pos 8, middle n -ℤ pos 8) (middle n +ℤ pos 8, middle n +ℤ pos 8, middle n +ℤ pos 8)
+middle_box n = between (middle n -ℤ pos 8, middle n -ℤ pos 8, middle n -ℤ pos 8)
+    (middle n +ℤ pos 8, middle n +ℤ pos 8, middle n +ℤ pos 8)
 
 abbrev pub demo_boxes : ℕ → List Area
 demo_boxes n = whole_box n ∷ half_box n ∷ middle_box n ∷ []

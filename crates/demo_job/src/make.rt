@@ -137,8 +137,8 @@ fn make_script(alloc: Global, n: u32, seed: u16) -> Result<Script, NoMemory>
     Ok(Script::of(1, plans, sessions))
 }
 
-/// The job that `demo` plays on the block of so many cubes a side: eight steps, each of which shakes all points, and four
-/// sessions, each of which asks three boxes about the last step. Its time and its memory are those of the block.
+/// The job that `demo` plays on the block of so many cubes a side: eight steps, each of which shakes all points, and
+/// four sessions, each of which asks three boxes about the last step. Its time and its memory are those of the block.
 pub fn make_demo(alloc: Global, side: Side, seed: u16) -> Result<Job, NoMemory>
     ensures { IfOk result (λ job. job ≡ demo_job side seed) }
 {

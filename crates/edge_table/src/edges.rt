@@ -86,8 +86,8 @@ impl EdgeTable {
     /// Puts in a cell, whose corners are points of the table. The same cell may be put in again: each counts.
     ///
     /// It searches twelve times in lists of neighbours, and makes at most twelve insertions. It takes memory, from the
-    /// allocator that the lists keep, only where one of the four lists has to grow, and does so before any change. After
-    /// NoMemory the table is as it was.
+    /// allocator that the lists keep, only where one of the four lists has to grow, and does so before any change.
+    /// After NoMemory the table is as it was.
     pub fn put_cell(&mut self, _alloc: Global, cell: Cell) -> Result<(), NoMemory>
         requires room { HasRoom self.old }
         requires within { IsWithin (length self.old) cell }
@@ -115,18 +115,19 @@ impl EdgeTable {
         take_pairs(&mut self.rows, &cell);
     }
 
-    /// Replaces a cell that is in by the four that have a new point in place of one of its corners. The point gets the next
-    /// number. After NoMemory the table is as it was.
+    /// Replaces a cell that is in by the four that have a new point in place of one of its corners. The point gets the
+    /// next number. After NoMemory the table is as it was.
     ///
-    /// It searches twelve times in lists of neighbours, and appends the point to four. It takes memory, before any change,
-    /// only where one of the four lists or the table of points has to grow.
+    /// It searches twelve times in lists of neighbours, and appends the point to four. It takes memory, before any
+    /// change, only where one of the four lists or the table of points has to grow.
     pub fn split_cell(&mut self, alloc: Global, point: u32, cell: Cell) -> Result<(), NoMemory>
         requires next { point ≡ length self.old }
         requires room { HasRoom self.old }
         requires there { HasCell self.old cell }
         ensures points { OnOk result (length self.new ≡ point + 1) }
         ensures cells { OnOk result ((cells : List (Option Corners)) (i : ℕ) →
-            IsPairsOf cells self.old → cell_at cells i ≡ Some cell → IsPairsOf (split_cells cells point i cell) self.new) }
+            IsPairsOf cells self.old → cell_at cells i ≡ Some cell
+            → IsPairsOf (split_cells cells point i cell) self.new) }
         ensures err { OnErr result (self.new ≡ self.old) }
     {
         let corners = cell.corners();

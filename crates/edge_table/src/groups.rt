@@ -8,9 +8,8 @@ ghost use Rattle.edge_table.specs.Corner.{pair_of, corner_pairs, seen_pairs};
 
 use crate::row::Row;
 use crate::times::add_to;
-use corner_ranges::laws::are_different;
-use corner_ranges::{Corner, CornerRanges};
-use mesh_base::{Cell, MOST_CELLS, NoMemory};
+use corner_ranges::{Corner, CornerRanges, point_at};
+use mesh_base::{Cell, MOST_CELLS, NoMemory, are_all_different};
 use std::alloc::Global;
 
 // The most that one entry of the seen pairs counts.
@@ -111,16 +110,8 @@ fn count_seen(rows: &mut Vec<Row>, seen: &mut Vec<(u32, u32, u32)>) -> Result<()
     Ok(())
 }
 
-// The point of slot i, if that is there and not empty.
-fn point_at(slots: &[Option<Corner>], i: usize) -> Option<u32> {
-    match slots.get(i) {
-        Some(Some(corner)) => Some(corner.point()),
-        _ => None,
-    }
-}
-
-// Counts the pairs at the corners in these slots. It puts each neighbour of a point into its row once, where the corners
-// of the point stand side by side.
+// Counts the pairs at the corners in these slots. It puts each neighbour of a point into its row once, where the
+// corners of the point stand side by side.
 fn count_slots(
     rows: &mut Vec<Row>,
     seen: &mut Vec<(u32, u32, u32)>,
@@ -163,7 +154,7 @@ pub fn count_cells(
     ensures pairs { OnOk result ((a u : ℕ) → a < vec_len rows.old
         → pair_count (shown rows.new.items) a u ≡ cell_pairs cells.now a u) }
 {
-    are_different(cells);
+    are_all_different(cells);
     let mut ranges = CornerRanges::new(alloc, points, cells)?;
     let mut marks = vec![in alloc; 0u32; points as usize]?;
     let mut seen = Vec::new(alloc);

@@ -168,11 +168,12 @@ pub fn add_three(row: &mut Row, x: u32, y: u32, z: u32)
     add_near(&mut row.near, &mut row.counts, z, 1);
 }
 
-/// The point's cell with x, y and z is split round w, which is greater than each neighbour: one cell more has each of the
-/// three beside the point, and three cells have w.
+/// The point's cell with x, y and z is split round w, which is greater than each neighbour: one cell more has each of
+/// the three beside the point, and three cells have w.
 pub fn split_three(row: &mut Row, x: u32, y: u32, z: u32, w: u32)
     requires row { IsRow row.old.near.items row.old.counts.items }
-    requires there { (u : ℕ) → (if nat_eq x u then 1 else 0) + (if nat_eq y u then 1 else 0) + (if nat_eq z u then 1 else 0)
+    requires there { (u : ℕ) → (if nat_eq x u then 1 else 0) + (if nat_eq y u then 1 else 0)
+        + (if nat_eq z u then 1 else 0)
         ≤ number_at row.old.near.items row.old.counts.items u }
     requires last { (u : ℕ) → 0 < number_at row.old.near.items row.old.counts.items u → u < w }
     requires near_room { HasRoomFor row.old.near 1 }
@@ -190,7 +191,8 @@ pub fn split_three(row: &mut Row, x: u32, y: u32, z: u32, w: u32)
     raise_near(&row.near, &mut row.counts, z);
 }
 
-/// The row of a new point round which a cell with these corners is split: three cells have each of them beside the point.
+/// The row of a new point round which a cell with these corners is split: three cells have each of them beside the
+/// point.
 pub fn row_inside(alloc: Global, corners: [u32; 4]) -> Row
     ensures row { IsRow result.near.items result.counts.items }
     ensures numbers { (u : ℕ) → number_at result.near.items result.counts.items u
@@ -210,7 +212,8 @@ pub fn row_inside(alloc: Global, corners: [u32; 4]) -> Row
 /// One cell less has x, y and z beside the point.
 pub fn drop_three(row: &mut Row, x: u32, y: u32, z: u32)
     requires row { IsRow row.old.near.items row.old.counts.items }
-    requires there { (u : ℕ) → (if nat_eq x u then 1 else 0) + (if nat_eq y u then 1 else 0) + (if nat_eq z u then 1 else 0)
+    requires there { (u : ℕ) → (if nat_eq x u then 1 else 0) + (if nat_eq y u then 1 else 0)
+        + (if nat_eq z u then 1 else 0)
         ≤ number_at row.old.near.items row.old.counts.items u }
     ensures row { IsRow row.new.near.items row.new.counts.items }
     ensures numbers { (u : ℕ) → number_at row.new.near.items row.new.counts.items u

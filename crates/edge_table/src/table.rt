@@ -55,7 +55,8 @@ fn add_at(rows: &mut Vec<Row>, v: u32, x: u32, y: u32, z: u32)
 fn drop_at(rows: &mut Vec<Row>, v: u32, x: u32, y: u32, z: u32)
     requires within { v < vec_len rows.old }
     requires rows { AreRows (shown rows.old.items) }
-    requires there { (u : ℕ) → (if nat_eq x u then 1 else 0) + (if nat_eq y u then 1 else 0) + (if nat_eq z u then 1 else 0)
+    requires there { (u : ℕ) → (if nat_eq x u then 1 else 0) + (if nat_eq y u then 1 else 0)
+        + (if nat_eq z u then 1 else 0)
         ≤ pair_count (shown rows.old.items) v u }
     ensures rows { AreRows (shown rows.new.items) }
     ensures len { vec_len rows.new ≡ vec_len rows.old }
@@ -106,7 +107,8 @@ pub fn take_pairs(rows: &mut Vec<Row>, cell: &Cell)
 fn split_at(rows: &mut Vec<Row>, v: u32, x: u32, y: u32, z: u32, w: u32)
     requires within { v < vec_len rows.old }
     requires rows { AreRows (shown rows.old.items) }
-    requires there { (u : ℕ) → (if nat_eq x u then 1 else 0) + (if nat_eq y u then 1 else 0) + (if nat_eq z u then 1 else 0)
+    requires there { (u : ℕ) → (if nat_eq x u then 1 else 0) + (if nat_eq y u then 1 else 0)
+        + (if nat_eq z u then 1 else 0)
         ≤ pair_count (shown rows.old.items) v u }
     requires last { (u : ℕ) → 0 < pair_count (shown rows.old.items) v u → u < w }
     requires room { HasRoomAt 1 rows.old.items v }

@@ -1,11 +1,10 @@
 //! Tables beside neighbours that were worked out by hand, and beside tables that are built anew.
 ghost use Rattle.std.specs.Prelude.{◌≡◌, ◌+◌, ◌<◌, Some, [], ◌∷◌, ◌++◌, length, OnOk, IfOk};
-ghost use Rattle.mesh_base.specs.Edit.{cell_at};
 ghost use Rattle.mesh_base.specs.Mesh.{corners_of};
 ghost use Rattle.edge_table.specs.Pairs.{IsPairsOf};
 
 use crate::EdgeTable;
-use mesh_base::{Cell, CellList, MOST_CELLS, MOST_POINTS, Mesh, Point, PointList};
+use mesh_base::{Cell, CellList, MOST_CELLS, MOST_POINTS, Mesh, Point, PointList, live_cell};
 use sample_meshes::block_mesh;
 use std::alloc::Global;
 use std::test::Fail;
@@ -44,16 +43,6 @@ fn append(
     table.put_cell(alloc, cell)?;
     cells.push_reserved(Some(cell));
     Ok(())
-}
-
-// Cell i, if it is there and live.
-fn live_cell(cells: &[Option<Cell>], i: usize) -> Option<Cell>
-    ensures { result ≡ cell_at cells.now i }
-{
-    match cells.get(i) {
-        Some(cell) => *cell,
-        None => None,
-    }
 }
 
 // Makes cell i absent, and takes it out of the table.

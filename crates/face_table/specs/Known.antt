@@ -10,7 +10,8 @@ rank_of f = f.0 * 2 ^ 64 + f.1 * 2 ^ 32 + f.2
 
 -- each face comes before those after it
 abbrev pub IsAscending : Counts → Type 0
-IsAscending es = (j k : ℕ) (d e : Face × ℕ) → j < k → k < length es → rank_of (slice_index_or es j d).0 < rank_of (slice_index_or es k e).0
+IsAscending es = (j k : ℕ) (d e : Face × ℕ) → j < k → k < length es
+    → rank_of (slice_index_or es j d).0 < rank_of (slice_index_or es k e).0
 
 -- no face is in both
 abbrev pub AreApart : Counts → Counts → Type 0

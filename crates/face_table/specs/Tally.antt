@@ -86,4 +86,5 @@ HasRoom table = (cells : List (Option Corners)) × IsTallyOf cells table × (len
 
 -- the table counts the faces of some cells, none of which has the last point
 abbrev pub HasFreePoint : Tally → Type 0
-HasFreePoint table = (cells : List (Option Corners)) × IsTallyOf cells table × (is_vertex cells (table.points - 1) ≡ false)
+HasFreePoint table = (cells : List (Option Corners)) × IsTallyOf cells table
+    × (is_vertex cells (table.points - 1) ≡ false)

@@ -1,4 +1,5 @@
-//! How often each face is counted: a list in ascending order for the faces that were there first, and a map for the others.
+//! How often each face is counted: a list in ascending order for the faces that were there first, and a map for the
+//! others.
 //!
 //! A face keeps its home. One of the list is counted there, down to 0 and up again; any other is in the map.
 ghost use Rattle.std.specs.Prelude.{◌≡◌, ℕ, ◌+◌, ◌^◌, ◌<◌, ◌≤◌, ◌-◌, true, false, Some, length, slice_get, count_by, [], ◌∷◌, if◌then◌else◌, IsOk, IfOk, OnOk, OnErr};
@@ -107,8 +108,11 @@ impl FaceCounts {
     pub fn count_up(&mut self, face: Face) -> Result<u32, NoMemory>
         requires fits { tally_in self.old.entries face + 1 < 2 ^ 32 }
         ensures before { IfOk result (λ n. n ≡ tally_in self.old.entries face) }
-        ensures tally { OnOk result ((f : PlainFace) → tally_in self.new.entries f ≡ tally_in self.old.entries f + (if face_eq face f then 1 else 0)) }
-        ensures singles { OnOk result ((v : ℕ) → single_count self.new.entries v + single_share v (face, tally_in self.old.entries face) ≡ single_count self.old.entries v + single_share v (face, tally_in self.old.entries face + 1)) }
+        ensures tally { OnOk result ((f : PlainFace)
+            → tally_in self.new.entries f ≡ tally_in self.old.entries f + (if face_eq face f then 1 else 0)) }
+        ensures singles { OnOk result ((v : ℕ) → single_count self.new.entries v
+            + single_share v (face, tally_in self.old.entries face)
+            ≡ single_count self.old.entries v + single_share v (face, tally_in self.old.entries face + 1)) }
         ensures room { self.old.spare ≤ self.new.spare + 1 }
         ensures succeeds { 0 < self.old.spare → IsOk result }
     {
@@ -126,8 +130,10 @@ impl FaceCounts {
     pub fn count_down(&mut self, face: &Face) -> u32
         requires there { 0 < tally_in self.old.entries face.now }
         ensures before { result ≡ tally_in self.old.entries face.now }
-        ensures tally { (f : PlainFace) → tally_in self.new.entries f + (if face_eq face.now f then 1 else 0) ≡ tally_in self.old.entries f }
-        ensures singles { (v : ℕ) → single_count self.new.entries v + single_share v (face.now, result) ≡ single_count self.old.entries v + single_share v (face.now, result - 1) }
+        ensures tally { (f : PlainFace) → tally_in self.new.entries f + (if face_eq face.now f then 1 else 0)
+            ≡ tally_in self.old.entries f }
+        ensures singles { (v : ℕ) → single_count self.new.entries v + single_share v (face.now, result)
+            ≡ single_count self.old.entries v + single_share v (face.now, result - 1) }
     {
         match find(&self.known, &self.starts, face) {
             Some(i) => {
@@ -143,7 +149,8 @@ impl FaceCounts {
     fn count_new(&mut self, face: Face)
         requires room { 0 < self.old.spare }
         requires new { tally_in self.old.entries face ≡ 0 }
-        ensures tally { (f : PlainFace) → tally_in self.new.entries f ≡ tally_in self.old.entries f + (if face_eq face f then 2 else 0) }
+        ensures tally { (f : PlainFace) → tally_in self.new.entries f
+            ≡ tally_in self.old.entries f + (if face_eq face f then 2 else 0) }
         ensures singles { (v : ℕ) → single_count self.new.entries v ≡ single_count self.old.entries v }
         ensures room { self.old.spare ≤ self.new.spare + 1 }
     {
@@ -156,7 +163,8 @@ impl FaceCounts {
     /// Counts the face once more. One that comes after all others goes to the end of the list.
     pub fn put(&mut self, face: Face) -> Result<(), NoMemory>
         requires fits { tally_in self.old.entries face + 1 < 2 ^ 32 }
-        ensures tally { OnOk result ((f : PlainFace) → tally_in self.new.entries f ≡ tally_in self.old.entries f + (if face_eq face f then 1 else 0)) }
+        ensures tally { OnOk result ((f : PlainFace)
+            → tally_in self.new.entries f ≡ tally_in self.old.entries f + (if face_eq face f then 1 else 0)) }
     {
         if self.more.is_empty() && is_past(&self.known, &face) {
             self.known.push((face, 1))?;
@@ -167,12 +175,14 @@ impl FaceCounts {
     }
 }
 
-/// Counts the six faces that a new point has with two corners of a cell. Two of the four cells round the point have each.
+/// Counts the six faces that a new point has with two corners of a cell. Two of the four cells round the point have
+/// each.
 pub fn count_split(counts: &mut FaceCounts, point: u32, cell: &Cell)
     requires room { 6 ≤ counts.old.spare }
     requires new { (f : PlainFace) → is_on f point ≡ true → tally_in counts.old.entries f ≡ 0 }
     requires beside { has_corner cell.now point ≡ false }
-    ensures tally { (f : PlainFace) → tally_in counts.new.entries f + count_by (λ g. face_eq g f) (faces cell.now) ≡ tally_in counts.old.entries f + face_count (quarters point cell.now) f }
+    ensures tally { (f : PlainFace) → tally_in counts.new.entries f + count_by (λ g. face_eq g f) (faces cell.now)
+        ≡ tally_in counts.old.entries f + face_count (quarters point cell.now) f }
     ensures singles { (v : ℕ) → single_count counts.new.entries v ≡ single_count counts.old.entries v }
 {
     let [a, b, c, d] = cell.corners();

@@ -7,9 +7,8 @@ ghost use Rattle.face_table.specs.Corner.{least_share, share_at, corner_share, s
 
 use crate::face_counts::FaceCounts;
 use crate::known::rank;
-use corner_ranges::laws::are_different;
-use corner_ranges::{Corner, CornerRanges};
-use mesh_base::{Cell, Face, MOST_CELLS, NoMemory};
+use corner_ranges::{Corner, CornerRanges, point_at};
+use mesh_base::{Cell, Face, MOST_CELLS, NoMemory, are_all_different};
 use std::alloc::Global;
 
 // Notes the face of v, x and y, where v is the least of them.
@@ -71,14 +70,6 @@ fn count_seen(counts: &mut FaceCounts, seen: &mut Vec<Face>) -> Result<(), NoMem
     Ok(())
 }
 
-// The point of slot i, if that is there and not empty.
-fn point_at(slots: &[Option<Corner>], i: usize) -> Option<u32> {
-    match slots.get(i) {
-        Some(Some(corner)) => Some(corner.point()),
-        _ => None,
-    }
-}
-
 // Counts the faces at the corners in these slots, those of the corners of one point together where these stand side by
 // side.
 fn count_slots(
@@ -124,7 +115,7 @@ pub fn count_cells(
     requires within { AreWithin points cells.now }
     ensures tally { IfOk result (λ counts. (f : PlainFace) → tally_in counts.entries f ≡ face_count cells.now f) }
 {
-    are_different(cells);
+    are_all_different(cells);
     let mut counts = no_counts(alloc, cells);
     let mut ranges = CornerRanges::new(alloc, points, cells)?;
     let mut seen = Vec::new(alloc);

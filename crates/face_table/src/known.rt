@@ -26,7 +26,8 @@ pub fn rank(face: &Face) -> u128
 fn find_between(known: &Vec<Known>, from: usize, to: usize, face: &Face) -> Option<usize>
     requires ascending { IsAscending known.now.items }
     requires between { IsBetween known.now.items from to face.now }
-    ensures { MatchOption result (lookup (face_eq face.now) known.now.items ≡ None) (IsFirstAt known.now.items face.now) }
+    ensures { MatchOption result (lookup (face_eq face.now) known.now.items ≡ None)
+        (IsFirstAt known.now.items face.now) }
 {
     let wanted = rank(face);
     let mut low = from;
@@ -81,7 +82,8 @@ fn is_last(known: &Vec<Known>, face: &Face) -> bool
 /// them where that tells wrong.
 pub fn find(known: &Vec<Known>, starts: &[u32], face: &Face) -> Option<usize>
     requires ascending { IsAscending known.now.items }
-    ensures { MatchOption result (lookup (face_eq face.now) known.now.items ≡ None) (IsFirstAt known.now.items face.now) }
+    ensures { MatchOption result (lookup (face_eq face.now) known.now.items ≡ None)
+        (IsFirstAt known.now.items face.now) }
 {
     let [v, _, _] = face.numbers();
     let v = v as usize;

@@ -10,9 +10,11 @@ use std::alloc::Global;
 // One more for each of the face's three vertices.
 fn raise(singles: &mut Vec<usize>, face: &Face)
     requires within { face.now.2 < vec_len singles.old }
-    requires fits { (v : ℕ) → v < vec_len singles.old → is_on face.now v ≡ true → slice_index singles.old.items v + 1 < 2 ^ 64 }
+    requires fits { (v : ℕ) → v < vec_len singles.old → is_on face.now v ≡ true
+        → slice_index singles.old.items v + 1 < 2 ^ 64 }
     ensures len { vec_len singles.new ≡ vec_len singles.old }
-    ensures raised { (v : ℕ) → slice_index singles.new.items v ≡ slice_index singles.old.items v + (if is_on face.now v then 1 else 0) }
+    ensures raised { (v : ℕ) → slice_index singles.new.items v
+        ≡ slice_index singles.old.items v + (if is_on face.now v then 1 else 0) }
 {
     let [a, b, c] = face.numbers();
     singles[a as usize] += 1;
@@ -25,7 +27,8 @@ fn lower(singles: &mut Vec<usize>, face: &Face)
     requires within { face.now.2 < vec_len singles.old }
     requires some { (v : ℕ) → v < vec_len singles.old → is_on face.now v ≡ true → 0 < slice_index singles.old.items v }
     ensures len { vec_len singles.new ≡ vec_len singles.old }
-    ensures lowered { (v : ℕ) → slice_index singles.new.items v + (if is_on face.now v then 1 else 0) ≡ slice_index singles.old.items v }
+    ensures lowered { (v : ℕ) → slice_index singles.new.items v + (if is_on face.now v then 1 else 0)
+        ≡ slice_index singles.old.items v }
 {
     let [a, b, c] = face.numbers();
     singles[a as usize] -= 1;
@@ -38,9 +41,11 @@ fn follow(singles: &mut Vec<usize>, face: &Face, before: u32, after: u32)
     requires before_within { before ≡ 1 → face.now.2 < vec_len singles.old }
     requires after_within { after ≡ 1 → face.now.2 < vec_len singles.old }
     requires fits { (v : ℕ) → v < vec_len singles.old → slice_index singles.old.items v + 1 < 2 ^ 64 }
-    requires held { (v : ℕ) → v < vec_len singles.old → single_share v (face.now, before) ≤ slice_index singles.old.items v }
+    requires held { (v : ℕ) → v < vec_len singles.old
+        → single_share v (face.now, before) ≤ slice_index singles.old.items v }
     ensures len { vec_len singles.new ≡ vec_len singles.old }
-    ensures followed { (v : ℕ) → slice_index singles.new.items v + single_share v (face.now, before) ≡ slice_index singles.old.items v + single_share v (face.now, after) }
+    ensures followed { (v : ℕ) → slice_index singles.new.items v + single_share v (face.now, before)
+        ≡ slice_index singles.old.items v + single_share v (face.now, after) }
 {
     if before == 1 {
         lower(singles, face);
@@ -56,12 +61,14 @@ fn put_face(counts: &mut FaceCounts, singles: &mut Vec<usize>, face: Face)
     requires fits { tally_in counts.old.entries face + 1 < 2 ^ 32 }
     requires within { face.2 < vec_len singles.old }
     requires singles { AreSingles counts.old.entries singles.old.items }
-    ensures tally { (f : PlainFace) → tally_in counts.new.entries f ≡ tally_in counts.old.entries f + (if face_eq face f then 1 else 0) }
+    ensures tally { (f : PlainFace) → tally_in counts.new.entries f
+        ≡ tally_in counts.old.entries f + (if face_eq face f then 1 else 0) }
     ensures grows { (f : PlainFace) → tally_in counts.new.entries f ≤ tally_in counts.old.entries f + 1 }
     ensures room { counts.old.spare ≤ counts.new.spare + 1 }
     ensures len { vec_len singles.new ≡ vec_len singles.old }
     ensures singles { AreSingles counts.new.entries singles.new.items }
-    ensures others { (v : ℕ) → is_on face v ≡ false → single_count counts.new.entries v ≡ single_count counts.old.entries v }
+    ensures others { (v : ℕ) → is_on face v ≡ false
+        → single_count counts.new.entries v ≡ single_count counts.old.entries v }
 {
     let _few = counts.len();
     let before = counts.count_up(face).unwrap();
@@ -73,10 +80,12 @@ fn take_face(counts: &mut FaceCounts, singles: &mut Vec<usize>, face: Face)
     requires there { 0 < tally_in counts.old.entries face }
     requires within { face.2 < vec_len singles.old }
     requires singles { AreSingles counts.old.entries singles.old.items }
-    ensures tally { (f : PlainFace) → tally_in counts.new.entries f + (if face_eq face f then 1 else 0) ≡ tally_in counts.old.entries f }
+    ensures tally { (f : PlainFace) → tally_in counts.new.entries f + (if face_eq face f then 1 else 0)
+        ≡ tally_in counts.old.entries f }
     ensures len { vec_len singles.new ≡ vec_len singles.old }
     ensures singles { AreSingles counts.new.entries singles.new.items }
-    ensures others { (v : ℕ) → is_on face v ≡ false → single_count counts.new.entries v ≡ single_count counts.old.entries v }
+    ensures others { (v : ℕ) → is_on face v ≡ false
+        → single_count counts.new.entries v ≡ single_count counts.old.entries v }
 {
     let _few = counts.len();
     let before = counts.count_down(&face);
@@ -89,10 +98,12 @@ pub fn put_faces(counts: &mut FaceCounts, singles: &mut Vec<usize>, cell: &Cell)
     requires fits { (f : PlainFace) → tally_in counts.old.entries f < 2 ^ 31 }
     requires within { IsWithin (vec_len singles.old) cell.now }
     requires singles { AreSingles counts.old.entries singles.old.items }
-    ensures tally { (f : PlainFace) → tally_in counts.new.entries f ≡ tally_in counts.old.entries f + count_by (λ g. face_eq g f) (faces cell.now) }
+    ensures tally { (f : PlainFace) → tally_in counts.new.entries f
+        ≡ tally_in counts.old.entries f + count_by (λ g. face_eq g f) (faces cell.now) }
     ensures len { vec_len singles.new ≡ vec_len singles.old }
     ensures singles { AreSingles counts.new.entries singles.new.items }
-    ensures others { (v : ℕ) → has_corner cell.now v ≡ false → single_count counts.new.entries v ≡ single_count counts.old.entries v }
+    ensures others { (v : ℕ) → has_corner cell.now v ≡ false
+        → single_count counts.new.entries v ≡ single_count counts.old.entries v }
 {
     let [f, g, h, i] = cell.faces();
     put_face(counts, singles, f);
@@ -106,10 +117,12 @@ pub fn take_faces(counts: &mut FaceCounts, singles: &mut Vec<usize>, cell: &Cell
     requires there { (f : PlainFace) → count_by (λ g. face_eq g f) (faces cell.now) ≤ tally_in counts.old.entries f }
     requires within { IsWithin (vec_len singles.old) cell.now }
     requires singles { AreSingles counts.old.entries singles.old.items }
-    ensures tally { (f : PlainFace) → tally_in counts.new.entries f + count_by (λ g. face_eq g f) (faces cell.now) ≡ tally_in counts.old.entries f }
+    ensures tally { (f : PlainFace) → tally_in counts.new.entries f + count_by (λ g. face_eq g f) (faces cell.now)
+        ≡ tally_in counts.old.entries f }
     ensures len { vec_len singles.new ≡ vec_len singles.old }
     ensures singles { AreSingles counts.new.entries singles.new.items }
-    ensures others { (v : ℕ) → has_corner cell.now v ≡ false → single_count counts.new.entries v ≡ single_count counts.old.entries v }
+    ensures others { (v : ℕ) → has_corner cell.now v ≡ false
+        → single_count counts.new.entries v ≡ single_count counts.old.entries v }
 {
     let [f, g, h, i] = cell.faces();
     take_face(counts, singles, f);

@@ -13,8 +13,10 @@ fn remove_at(surface: &mut Vec<u32>, i: usize)
     requires there { i < vec_len surface.old }
     requires ascending { IsStrictlyIncreasing surface.old.items }
     ensures ascending { IsStrictlyIncreasing surface.new.items }
-    ensures only { (w : ℕ) → Contains surface.new.items w → Contains surface.old.items w × (w ≢ slice_index surface.old.items i) }
-    ensures every { (w : ℕ) → w ≢ slice_index surface.old.items i → Contains surface.old.items w → Contains surface.new.items w }
+    ensures only { (w : ℕ) → Contains surface.new.items w
+        → Contains surface.old.items w × (w ≢ slice_index surface.old.items i) }
+    ensures every { (w : ℕ) → w ≢ slice_index surface.old.items i → Contains surface.old.items w
+        → Contains surface.new.items w }
     ensures room { vec_capacity surface.new ≡ vec_capacity surface.old }
 {
     surface.remove(i);
@@ -39,7 +41,8 @@ pub fn settle(singles: &Vec<usize>, surface: &mut Vec<u32>, v: u32)
     requires below { IsBelow (vec_len singles.now) surface.old }
     ensures below { IsBelow (vec_len singles.now) surface.new }
     ensures here { Matches singles.now.items surface.new.items v }
-    ensures others { (w : ℕ) → w ≢ v → Matches singles.now.items surface.old.items w → Matches singles.now.items surface.new.items w }
+    ensures others { (w : ℕ) → w ≢ v → Matches singles.now.items surface.old.items w
+        → Matches singles.now.items surface.new.items w }
 {
     let wanted = singles[v as usize] != 0;
     match place_of(surface, v) {

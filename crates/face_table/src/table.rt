@@ -17,8 +17,8 @@ use std::marker::Model;
 /// How many live cells have each face, and the surface: the vertices on faces that a single live cell has.
 ///
 /// It keeps no cells. Contracts speak of each list of cells of which this is the table, that is, whose faces it counts.
-/// It takes 16 bytes for each face of the cells that it is built from, 31 to 62 for each other face that is counted, and
-/// 16 to 28 for each point.
+/// It takes 16 bytes for each face of the cells that it is built from, 31 to 62 for each other face that is counted,
+/// and 16 to 28 for each point.
 #[derive(Drop)]
 pub struct FaceTable {
     counts: FaceCounts,
@@ -43,8 +43,8 @@ impl Model for FaceTable {
 impl FaceTable {
     /// The table of these cells over points numbered from 0. An absent cell, None, counts for nothing.
     ///
-    /// It passes three times over the cells, and looks at each again for each range of points that it has corners in. It
-    /// gathers and sorts the faces point by point, and then passes twice over the faces and twice over the points.
+    /// It passes three times over the cells, and looks at each again for each range of points that it has corners in.
+    /// It gathers and sorts the faces point by point, and then passes twice over the faces and twice over the points.
     pub fn build(alloc: Global, points: u32, cells: &[Option<Cell>]) -> Result<FaceTable, NoMemory>
         requires few_points { points ≤ MOST_POINTS }
         requires few_cells { length cells.now ≤ MOST_CELLS }
@@ -64,11 +64,12 @@ impl FaceTable {
         })
     }
 
-    /// How many live cells have the face. It looks the face up once, among the faces with the same least number and in a
-    /// map of faces that came later, and takes no memory.
+    /// How many live cells have the face. It looks the face up once, among the faces with the same least number and in
+    /// a map of faces that came later, and takes no memory.
     pub fn tally(&self, face: Face) -> u32
         ensures tally { result ≡ tally_of self.now face }
-        ensures cells { (cells : List (Option Corners)) → AreAllDifferent cells → IsTallyOf cells self.now → result ≡ count cells face }
+        ensures cells { (cells : List (Option Corners)) → AreAllDifferent cells → IsTallyOf cells self.now
+            → result ≡ count cells face }
     {
         let _numbers = face.numbers();
         self.counts.count_of(&face)
@@ -82,8 +83,10 @@ impl FaceTable {
         requires room { HasRoom self.old }
         requires within { IsWithin self.old.points cell }
         ensures points { self.new.points ≡ self.old.points }
-        ensures tally { OnOk result ((f : PlainFace) → tally_of self.new f ≡ tally_of self.old f + count_by (λ g. face_eq g f) (faces cell)) }
-        ensures cells { OnOk result ((cells : List (Option Corners)) → IsTallyOf cells self.old → IsTallyOf (cells ++ Some cell ∷ []) self.new) }
+        ensures tally { OnOk result ((f : PlainFace)
+            → tally_of self.new f ≡ tally_of self.old f + count_by (λ g. face_eq g f) (faces cell)) }
+        ensures cells { OnOk result ((cells : List (Option Corners)) → IsTallyOf cells self.old
+            → IsTallyOf (cells ++ Some cell ∷ []) self.new) }
         ensures ready { OnOk result (self.new.ready ≡ false) }
         ensures err { OnErr result (self.new ≡ self.old) }
     {
@@ -98,8 +101,10 @@ impl FaceTable {
     pub fn take_cell(&mut self, cell: Cell)
         requires there { HasCell self.old cell }
         ensures points { self.new.points ≡ self.old.points }
-        ensures tally { (f : PlainFace) → tally_of self.new f + count_by (λ g. face_eq g f) (faces cell) ≡ tally_of self.old f }
-        ensures cells { (cells : List (Option Corners)) (i : ℕ) → IsTallyOf cells self.old → cell_at cells i ≡ Some cell → IsTallyOf (slice_set cells i None) self.new }
+        ensures tally { (f : PlainFace) → tally_of self.new f + count_by (λ g. face_eq g f) (faces cell)
+            ≡ tally_of self.old f }
+        ensures cells { (cells : List (Option Corners)) (i : ℕ) → IsTallyOf cells self.old
+            → cell_at cells i ≡ Some cell → IsTallyOf (slice_set cells i None) self.new }
         ensures ready { self.new.ready ≡ false }
     {
         take_faces(&mut self.counts, &mut self.singles, &cell);
@@ -122,16 +127,18 @@ impl FaceTable {
         Ok(())
     }
 
-    /// Replaces a live cell by the four that have a new point in place of one of its corners. `reserve_split` comes first.
+    /// Replaces a live cell by the four that have a new point in place of one of its corners. `reserve_split` comes
+    /// first.
     ///
-    /// It looks up six faces, those of the new point that two of the four cells have, and takes no memory. Each face of the
-    /// old cell goes to one of the four and keeps its count, so no vertex comes to the surface or leaves it.
+    /// It looks up six faces, those of the new point that two of the four cells have, and takes no memory. Each face of
+    /// the old cell goes to one of the four and keeps its count, so no vertex comes to the surface or leaves it.
     pub fn split_cell(&mut self, point: u32, cell: Cell)
         requires ready { self.old.ready ≡ true }
         requires next { point ≡ self.old.points }
         requires there { HasCell self.old cell }
         ensures points { self.new.points ≡ point + 1 }
-        ensures cells { (cells : List (Option Corners)) (i : ℕ) → IsTallyOf cells self.old → cell_at cells i ≡ Some cell → IsTallyOf (split_cells cells point i cell) self.new }
+        ensures cells { (cells : List (Option Corners)) (i : ℕ) → IsTallyOf cells self.old
+            → cell_at cells i ≡ Some cell → IsTallyOf (split_cells cells point i cell) self.new }
         ensures ready { self.new.ready ≡ false }
     {
         count_split(&mut self.counts, point, &cell);
@@ -173,7 +180,8 @@ impl FaceTable {
     /// The vertices of the surface, ascending. It takes no memory and no time to speak of.
     pub fn surface(&self) -> &[u32]
         ensures listed { IsListOf (IsOnSurface self.now) result.now }
-        ensures cells { (cells : List (Option Corners)) → AreAllDifferent cells → IsTallyOf cells self.now → result.now ≡ filter (is_surface cells) (range_with_len 0 self.now.points) }
+        ensures cells { (cells : List (Option Corners)) → AreAllDifferent cells → IsTallyOf cells self.now
+            → result.now ≡ filter (is_surface cells) (range_with_len 0 self.now.points) }
     {
         let _len = self.counts.len();
         self.surface.as_slice()

@@ -1,11 +1,10 @@
 //! Tables beside surfaces that were worked out by hand, and beside tables that are built anew.
 ghost use Rattle.std.specs.Prelude.{◌≡◌, ◌+◌, ◌<◌, ◌↔◌, Some, [], ◌∷◌, ◌++◌, length, IsTrue, OnOk, IfOk};
-ghost use Rattle.mesh_base.specs.Edit.{cell_at};
 ghost use Rattle.mesh_base.specs.Mesh.{IsWithin, corners_of};
 ghost use Rattle.face_table.specs.Tally.{IsTallyOf};
 
 use crate::FaceTable;
-use mesh_base::{Cell, CellList, Face, MOST_CELLS, MOST_POINTS, Mesh, Point, PointList};
+use mesh_base::{Cell, CellList, Face, MOST_CELLS, MOST_POINTS, Mesh, Point, PointList, live_cell};
 use std::alloc::Global;
 use std::test::Fail;
 
@@ -49,16 +48,6 @@ fn append(
     table.put_cell(alloc, cell)?;
     cells.push_reserved(Some(cell));
     Ok(())
-}
-
-// Cell i, if it is there and live.
-fn live_cell(cells: &[Option<Cell>], i: usize) -> Option<Cell>
-    ensures { result ≡ cell_at cells.now i }
-{
-    match cells.get(i) {
-        Some(cell) => *cell,
-        None => None,
-    }
 }
 
 // Makes cell i absent, and takes it out of the table.
@@ -391,7 +380,8 @@ fn sum_of_tallies(table: &FaceTable, cells: &[[u32; 4]]) -> u32 {
     sum
 }
 
-// A block of 3 cubes a side has 108 faces on its sides, which count 1 each, and 270 within, each of which two cells have.
+// A block of 3 cubes a side has 108 faces on its sides, which count 1 each, and 270 within, each of which two cells
+// have.
 #[test]
 fn first_faces_go_and_come_beside_later_ones(rt: HostRuntime) -> Result<(), Fail> {
     let alloc = rt.alloc();

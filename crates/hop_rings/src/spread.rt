@@ -14,8 +14,10 @@ use step_view::Step;
 // Puts w in, unless it was reached, as reached from u.
 fn reach(w: u32, u: u32, from: &mut [Option<u32>], found: &mut Vec<u32>) -> Result<(), NoMemory>
     requires { w < length from.old }
-    ensures from { OnOk result (from.new ≡ (if is_reached from.old w then from.old else slice_set from.old w (Some u))) }
-    ensures found { OnOk result (found.new.items ≡ (if is_reached from.old w then found.old.items else found.old.items ++ w ∷ [])) }
+    ensures from { OnOk result (from.new ≡ (if is_reached from.old w then from.old
+        else slice_set from.old w (Some u))) }
+    ensures found { OnOk result (found.new.items ≡ (if is_reached from.old w then found.old.items
+        else found.old.items ++ w ∷ [])) }
 {
     if from[w as usize].is_none() {
         found.push(w)?;
@@ -33,7 +35,8 @@ fn visit(
 ) -> Result<(), NoMemory>
     requires point { u < length step.now.mesh.points }
     requires points { length from.old ≡ length step.now.mesh.points }
-    ensures { OnOk result (IsSpread (λ w. if are_neighbours step.now.mesh.cells u w then Some u else None) from.old from.new found.old.items found.new.items) }
+    ensures { OnOk result (IsSpread (λ w. if are_neighbours step.now.mesh.cells u w then Some u
+        else None) from.old from.new found.old.items found.new.items) }
 {
     for w in step.neighbours(u) {
         reach(*w, u, from, found)?;
@@ -64,7 +67,8 @@ fn sources_of(alloc: Global, vertices: &[u32], from: &[Option<u32>]) -> Result<V
     requires points { (v : ℕ) → Contains vertices.now v → v < length from.now }
     requires reached { (v : ℕ) → Contains vertices.now v → IsTrue (is_reached from.now v) }
     ensures len { IfOk result (λ sources. length sources.items ≡ length vertices.now) }
-    ensures sources { IfOk result (λ sources. (k : ℕ) → k < length vertices.now → from_at from.now (slice_index vertices.now k) ≡ Some (slice_index sources.items k)) }
+    ensures sources { IfOk result (λ sources. (k : ℕ) → k < length vertices.now
+        → from_at from.now (slice_index vertices.now k) ≡ Some (slice_index sources.items k)) }
 {
     let mut sources = Vec::with_capacity(alloc, vertices.len())?;
     for v in vertices {
@@ -82,8 +86,10 @@ pub(crate) fn next_ring(
 ) -> Result<Ring, NoMemory>
     requires ring { (u : ℕ) → Contains ring.now u → u < length step.now.mesh.points }
     requires points { length from.old ≡ length step.now.mesh.points }
-    ensures ring { IfOk result (λ next. (vs : List ℕ) (n : ℕ) → IsListOf (IsLevel step.now.mesh vs n) ring.now → AreNear step.now.mesh vs n from.old → IsRing step.now.mesh vs (suc n) next) }
-    ensures near { OnOk result ((vs : List ℕ) (n : ℕ) → IsListOf (IsLevel step.now.mesh vs n) ring.now → AreNear step.now.mesh vs n from.old → AreNear step.now.mesh vs (suc n) from.new) }
+    ensures ring { IfOk result (λ next. (vs : List ℕ) (n : ℕ) → IsListOf (IsLevel step.now.mesh vs n) ring.now
+        → AreNear step.now.mesh vs n from.old → IsRing step.now.mesh vs (suc n) next) }
+    ensures near { OnOk result ((vs : List ℕ) (n : ℕ) → IsListOf (IsLevel step.now.mesh vs n) ring.now
+        → AreNear step.now.mesh vs n from.old → AreNear step.now.mesh vs (suc n) from.new) }
 {
     let mut found = Vec::new(alloc);
     visit_all(step, ring, from, &mut found)?;

@@ -67,8 +67,10 @@ fn trail_to(alloc: Global, rings: &[Ring], level: usize, v: u32) -> Result<Vec<u
 /// path, and needs no mesh.
 pub fn path_to(alloc: Global, rings: &[Ring], v: u32) -> Result<Option<VertexList>, NoMemory>
     requires rings { AreRingsOfOne rings.now }
-    ensures found { IfOk result (λ found. MatchOption found ((n : ℕ) → IsInRing rings.now n v → ⊥) (IsTrail rings.now v)) }
-    ensures shortest { IfOk result (λ found. IfSome found (λ path. (mesh : MeshView) (vs : List ℕ) → AreRings mesh vs rings.now → IsShortest mesh vs v path)) }
+    ensures found { IfOk result (λ found. MatchOption found ((n : ℕ) → IsInRing rings.now n v → ⊥)
+        (IsTrail rings.now v)) }
+    ensures shortest { IfOk result (λ found. IfSome found
+        (λ path. (mesh : MeshView) (vs : List ℕ) → AreRings mesh vs rings.now → IsShortest mesh vs v path)) }
 {
     match ring_of(rings, v) {
         None => Ok(None),

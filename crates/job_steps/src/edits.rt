@@ -31,7 +31,8 @@ pub fn make_edits(
     edits: &[LinedEdit],
 ) -> Result<Vec<Point>, NoMemory>
     requires fit { AllFit topo.old edits.now }
-    ensures edited { OnOk result ((mesh : MeshView) → IsTopologyOf mesh topo.old → IsTopologyOf (all_edited mesh edits.now) topo.new) }
+    ensures edited { OnOk result ((mesh : MeshView) → IsTopologyOf mesh topo.old
+        → IsTopologyOf (all_edited mesh edits.now) topo.new) }
     ensures added { IfOk result (λ added. added.items ≡ new_points edits.now) }
 {
     let mut added = Vec::new(alloc);
@@ -63,8 +64,8 @@ fn joined(
     Positions::after(alloc, old, PointList::of(points))
 }
 
-/// The places of so many points: those of before, and behind them those of new points. Without new points they are shared, and
-/// nothing is copied.
+/// The places of so many points: those of before, and behind them those of new points. Without new points they are
+/// shared, and nothing is copied.
 pub fn with_added(
     alloc: Global,
     old: &Arc<Positions>,

@@ -41,7 +41,8 @@ fn edited_places(
     requires more { k < steps job.now }
     requires now { IsStepOf job.now k topo.old (arc_value places.now) }
     requires in_range { All IsPlace (arc_value places.now) }
-    ensures mesh { IfOk result (λ before. mesh_at (arc_value before) topo.new ≡ all_edited (step_at job.now k) (plan_at job.now k).edits) }
+    ensures mesh { IfOk result (λ before. mesh_at (arc_value before) topo.new
+        ≡ all_edited (step_at job.now k) (plan_at job.now k).edits) }
     ensures points { IfOk result (λ before. length (arc_value before) ≡ topo.new.points) }
     ensures in_range { IfOk result (λ before. All IsPlace (arc_value before)) }
 {
@@ -51,8 +52,8 @@ fn edited_places(
     Ok(after)
 }
 
-/// Makes the edits of plan k, where the topology and the places are those of step k. After NoMemory the topology may have any
-/// of the edits.
+/// Makes the edits of plan k, where the topology and the places are those of step k. After NoMemory the topology may
+/// have any of the edits.
 pub fn edited(
     alloc: Global,
     job: &Job,
@@ -65,7 +66,8 @@ pub fn edited(
     requires now { IsStepOf job.now k topo.old (arc_value places.now) }
     requires in_range { All IsPlace (arc_value places.now) }
     ensures shape { IfOk result (λ ground. arc_value ground.shape ≡ topo.new) }
-    ensures mesh { IfOk result (λ ground. mesh_at (arc_value ground.places) topo.new ≡ all_edited (step_at job.now k) (plan_at job.now k).edits) }
+    ensures mesh { IfOk result (λ ground. mesh_at (arc_value ground.places) topo.new
+        ≡ all_edited (step_at job.now k) (plan_at job.now k).edits) }
     ensures kernel { IfOk result (λ ground. ground.kernel ≡ (plan_at job.now k).kernel) }
     ensures step { IfOk result (λ ground. ground.step ≡ k + 1) }
     ensures fits { IfOk result (λ ground. HasDivisor ground.kernel) }
@@ -95,8 +97,8 @@ macro_rules! places_after {
     };
 }
 
-/// Makes the edits of plan k, and gives the places of step k + 1, where the topology and the places are those of step k. After
-/// NoMemory the topology may have any of the edits.
+/// Makes the edits of plan k, and gives the places of step k + 1, where the topology and the places are those of step
+/// k. After NoMemory the topology may have any of the edits.
 ///
 /// A shape is made only for a plan that moves points.
 pub fn places_alone(
@@ -125,7 +127,9 @@ pub fn places_alone(
 /// Where the motion puts the points, found by the thread that asks.
 pub fn moved_alone(alloc: Global, ground: &Ground) -> Result<Arc<Positions>, NoMemory>
     requires { HasDivisor ground.now.kernel }
-    ensures { IfOk result (λ places. arc_value places ≡ moved (mesh_at (arc_value ground.now.places) (arc_value ground.now.shape)) ground.now.kernel ground.now.step) }
+    ensures { IfOk result (λ places. arc_value places
+        ≡ moved (mesh_at (arc_value ground.now.places)
+        (arc_value ground.now.shape)) ground.now.kernel ground.now.step) }
 {
     places_after!(
         alloc,
@@ -147,7 +151,9 @@ pub fn moved_in_threads<R: Threads + Sync>(
     ground: &Ground,
 ) -> Result<Arc<Positions>, NoMemory>
     requires { HasDivisor ground.now.kernel }
-    ensures { IfOk result (λ places. arc_value places ≡ moved (mesh_at (arc_value ground.now.places) (arc_value ground.now.shape)) ground.now.kernel ground.now.step) }
+    ensures { IfOk result (λ places. arc_value places
+        ≡ moved (mesh_at (arc_value ground.now.places)
+        (arc_value ground.now.shape)) ground.now.kernel ground.now.step) }
 {
     places_after!(
         alloc,

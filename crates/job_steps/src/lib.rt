@@ -1,7 +1,8 @@
 //! Makes the steps of a job one after the other, each by the edits and the motion of its plan.
 //!
-//! A `Maker` keeps one topology, which it edits in place, and the places of the last step. What a plan leaves as it was, the
-//! new step shares with the one before it. The mesh of each step is `step_at` of the definitions in `run_script`.
+//! A `Maker` keeps one topology, which it edits in place, and the places of the last step. What a plan leaves as it
+//! was, the new step shares with the one before it. The mesh of each step is `step_at` of the definitions in
+//! `run_script`.
 #![tactic(auto)]
 
 mod edits;

@@ -19,9 +19,9 @@ use topo::{Positions, Topo};
 
 /// Makes the steps of one job in order: each call makes one step more, from the last one, by the job's next plan.
 ///
-/// It keeps the topology of the last step, and edits it in place for the next. Where memory is refused the topology may be
-/// between two steps: then the maker is lost, and makes no step more. Contracts see its job, the number of the last step
-/// made, and whether it is lost.
+/// It keeps the topology of the last step, and edits it in place for the next. Where memory is refused the topology may
+/// be between two steps: then the maker is lost, and makes no step more. Contracts see its job, the number of the last
+/// step made, and whether it is lost.
 #[derive(Drop)]
 pub struct Maker {
     job: Arc<Job>,
@@ -39,7 +39,8 @@ impl Model for Maker {
 
     ghost view = { λ m. record { job = arc_value m.job; made = m.made; lost = m.lost } };
 
-    ghost invariant = { λ m. IsMaker (record { job = arc_value m.job; made = m.made; lost = m.lost }) m.topo (arc_value m.places) };
+    ghost invariant = { λ m. IsMaker (record { job = arc_value m.job; made = m.made; lost = m.lost }) m.topo
+        (arc_value m.places) };
 }
 
 // The coordinates of a point are in range, which its type says. Nothing is computed.
@@ -130,8 +131,8 @@ impl Maker {
 
     /// The last step made. After NoMemory the maker is as it was. A lost maker answers NoMemory.
     ///
-    /// It copies the chunks that the edits since the last step that was handed out have changed, and the surface. The other
-    /// chunks are shared with that step, and cells that no edit of the job has changed with the job.
+    /// It copies the chunks that the edits since the last step that was handed out have changed, and the surface. The
+    /// other chunks are shared with that step, and cells that no edit of the job has changed with the job.
     pub fn last_step(&mut self, alloc: Global) -> Result<Step, NoMemory>
         ensures step { IfOk result (λ step. step ≡ step_of self.old.job self.old.made) }
         ensures same { self.new ≡ self.old }
@@ -144,8 +145,8 @@ impl Maker {
         Ok(Step::new(self.job.clone()?, self.made, shape, self.places.clone()?))
     }
 
-    /// Makes the next step and hands nothing out, on the thread that asks: `last_step` gives that step. After NoMemory the maker
-    /// is lost, as after a refused `next`.
+    /// Makes the next step and hands nothing out, on the thread that asks: `last_step` gives that step. After NoMemory
+    /// the maker is lost, as after a refused `next`.
     ///
     /// It costs what `next_plain` costs. Where the plan stays, nothing is copied for the step.
     pub fn pass_plain(&mut self, alloc: Global) -> Result<(), NoMemory>
@@ -165,13 +166,14 @@ impl Maker {
         Ok(())
     }
 
-    /// The next step, by as many threads as there are processors: the step after the last one made. After NoMemory the maker is
-    /// lost: it has made as many steps as before, and every later call of `next` and `next_plain` answers NoMemory.
+    /// The next step, by as many threads as there are processors: the step after the last one made. After NoMemory the
+    /// maker is lost: it has made as many steps as before, and every later call of `next` and `next_plain` answers
+    /// NoMemory.
     ///
-    /// The edits of the plan cost what they cost in place, and of the cells and the neighbours the chunks that they change are
-    /// copied. The new places are computed in one pass over the points, by the threads together, and for a relaxation over all
-    /// neighbours; where the plan adds points the places are copied once before. A plan that stays and adds no point looks at no
-    /// place.
+    /// The edits of the plan cost what they cost in place, and of the cells and the neighbours the chunks that they
+    /// change are copied. The new places are computed in one pass over the points, by the threads together, and for a
+    /// relaxation over all neighbours; where the plan adds points the places are copied once before. A plan that stays
+    /// and adds no point looks at no place.
     pub fn next<R: Threads + Sync>(&mut self, rt: &R, alloc: Global) -> Result<Step, NoMemory>
         requires { self.old.made < steps self.old.job }
         ensures step { IfOk result (λ step. step ≡ step_of self.old.job (self.old.made + 1)) }

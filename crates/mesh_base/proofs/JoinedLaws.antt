@@ -63,7 +63,8 @@ eqb_self v = grind (arith, nat_tests)
 eqb_same : (v w : ℕ) → eqb v w ≡ true → v ≡ w
 eqb_same v w h = grind (arith, nat_tests)
 
--- two filters of one list: where the one passes all that the other does, it is at least as long, and if it is no longer, it passes no more
+-- two filters of one list: where the one passes all that the other does, it is at least as long, and if it is no
+-- longer, it passes no more
 length-filter-le : (p q : ℕ → Bool) (xs : List ℕ) → ((v : ℕ) → In xs v → p v ≡ true → q v ≡ true) → length (filter p xs) ≤ length (filter q xs)
 length-filter-le p q [] f = omega arith
 length-filter-le p q (x ∷ xs) f = by (p x) (q x) refl refl (length-filter-le p q xs (λ v m. f v (inr m)))

@@ -39,7 +39,9 @@ plus p q = (p.0 +ℤ q.0, p.1 +ℤ q.1, p.2 +ℤ q.2)
 
 -- the mean on each axis, towards the smaller number
 abbrev pub mean : List Place → Place
-mean ps = let sum = fold plus (pos 0, pos 0, pos 0) ps in let n = pos (length ps) in (floor_of sum.0 n, floor_of sum.1 n, floor_of sum.2 n)
+mean ps =
+    let sum = fold plus (pos 0, pos 0, pos 0) ps in
+    let n = pos (length ps) in (floor_of sum.0 n, floor_of sum.1 n, floor_of sum.2 n)
 
 -- a quarter turn round the axis
 abbrev pub turned : Axis → Place → Place
@@ -51,8 +53,10 @@ turned Z p = (neg_ℤ p.1, p.0, p.2)
 abbrev pub place_by : MeshView → Kernel → ℕ → ℕ → Place
 place_by mesh Stay k v = place mesh v
 place_by mesh (Shift dx dy dz) k v = plus (place mesh v) (dx, dy, dz)
-place_by mesh (Pull to num den) k v = let p = place mesh v in (pulled to.0 num den p.0, pulled to.1 num den p.1, pulled to.2 num den p.2)
-place_by mesh (Shake seed amp) k v = let p = place mesh v in (shaken seed amp k v 0 p.0, shaken seed amp k v 1 p.1, shaken seed amp k v 2 p.2)
+place_by mesh (Pull to num den) k v =
+    let p = place mesh v in (pulled to.0 num den p.0, pulled to.1 num den p.1, pulled to.2 num den p.2)
+place_by mesh (Shake seed amp) k v =
+    let p = place mesh v in (shaken seed amp k v 0 p.0, shaken seed amp k v 1 p.1, shaken seed amp k v 2 p.2)
 place_by mesh Relax k v = if is_vertex mesh.cells v then mean (map (place mesh) (neighbours mesh v)) else place mesh v
 place_by mesh (Turn axis) k v = turned axis (place mesh v)
 

@@ -35,12 +35,12 @@ pub enum Kernel {
     Shift { dx: i32, dy: i32, dz: i32 },
     /// Every point moves `num` in `den` parts of the way to `to`, on each axis. `den` is above 0.
     Pull { to: Point, num: i32, den: i32 },
-    /// Every coordinate moves by a number from `-amp` to `amp`, which depends on `seed` and on the step, the point and the
-    /// axis.
+    /// Every coordinate moves by a number from `-amp` to `amp`, which depends on `seed` and on the step, the point and
+    /// the axis.
     Shake { seed: u32, amp: u32 },
     /// Every vertex goes to the mean of its neighbours. A point that no live cell has stays.
     Relax,
-    /// A quarter turn round an axis through the origin: round z, the x axis comes to where the y axis was. Round x the y
-    /// axis comes to z, and round y the z axis to x.
+    /// A quarter turn round an axis through the origin: round z, the x axis comes to where the y axis was. Round x the
+    /// y axis comes to z, and round y the z axis to x.
     Turn { axis: Axis },
 }

@@ -9,6 +9,7 @@
 mod answer;
 mod boxes;
 mod cell;
+mod cells;
 mod edit;
 pub mod laws;
 mod lists;
@@ -20,6 +21,7 @@ mod sorted;
 pub use answer::{Answer, AnswerList, Route};
 pub use boxes::BoxQ;
 pub use cell::{Cell, Face};
+pub use cells::{are_all_different, live_cell};
 pub use edit::{Axis, Edit, Kernel};
 pub use lists::{CellList, PointList, VertexList};
 pub use mesh::{MOST_CELLS, MOST_POINTS, Mesh};

@@ -13,8 +13,8 @@ pub const MOST_POINTS: usize = 1_000_000;
 /// The most cells that a mesh may have, the absent ones included.
 pub const MOST_CELLS: usize = 4_000_000;
 
-/// A tetrahedral mesh: its points, and its cells, of which some are absent. Points and cells are numbered from 0 by their
-/// places in the lists. The corners of each live cell are numbers of points of the mesh.
+/// A tetrahedral mesh: its points, and its cells, of which some are absent. Points and cells are numbered from 0 by
+/// their places in the lists. The corners of each live cell are numbers of points of the mesh.
 ///
 /// A vertex is a point number that some live cell has. There may be points that no cell has.
 #[derive(Drop)]

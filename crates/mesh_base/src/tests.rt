@@ -118,8 +118,8 @@ fn places_are_found(rt: HostRuntime) {
     }
 }
 
-// In this box of a cell that was split twice lie 4 and 5 and no vertex of the surface: it is covered since both are joined to
-// each other. A box with nothing inside is covered, and so is each box of the empty mesh.
+// In this box of a cell that was split twice lie 4 and 5 and no vertex of the surface: it is covered since both are
+// joined to each other. A box with nothing inside is covered, and so is each box of the empty mesh.
 fn sample_covers()
     ensures inside { scan split_twice (box (at 2 4 3) (at 4 6 4)) ≡ 4 ∷ 5 ∷ [] }
     ensures apart { ¬ JoinedToOne split_twice (box (at 2 4 3) (at 4 6 4)) (surface split_twice) 4 }

@@ -170,7 +170,8 @@ pub struct Relaxed<'a> {
 fn sum_of(old: &Positions, near: &[u32]) -> (i64, i64, i64)
     requires within { All (λ w. w < length old.now) near.now }
     requires few { length near.now ≤ MOST_POINTS }
-    ensures { result ≡ fold plus (pos 0, pos 0, pos 0) (map (λ w. slice_index_or old.now w (pos 0, pos 0, pos 0)) near.now) }
+    ensures { result ≡ fold plus (pos 0, pos 0, pos 0)
+        (map (λ w. slice_index_or old.now w (pos 0, pos 0, pos 0)) near.now) }
 {
     let mut x = 0;
     let mut y = 0;

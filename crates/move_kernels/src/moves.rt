@@ -44,8 +44,8 @@ macro_rules! with_motion {
     };
 }
 
-/// The places of all points after the kernel has moved them, for the step k that is being made. Every new place comes from
-/// the old places alone, and from the neighbours of the shape. A pull has a positive `den`.
+/// The places of all points after the kernel has moved them, for the step k that is being made. Every new place comes
+/// from the old places alone, and from the neighbours of the shape. A pull has a positive `den`.
 ///
 /// It passes once over the points, and for a relaxation over all neighbours, and takes memory for the list alone.
 pub fn moved(

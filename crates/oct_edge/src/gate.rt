@@ -3,8 +3,8 @@
 use std::marker::Sync;
 use std::sync::Wait;
 
-/// What each worker of a run calls at certain places of its work. A call may wait, and no contract says anything of it: by it
-/// a test leads a run through one order of events. A program passes `NoGate`.
+/// What each worker of a run calls at certain places of its work. A call may wait, and no contract says anything of it:
+/// by it a test leads a run through one order of events. A program passes `NoGate`.
 pub trait Gate: Sync {
     /// The worker `who` is at `place`. What the two numbers mean is said by whoever calls the gate.
     fn at<R: Wait>(&self, rt: &R, who: u32, place: u32);

@@ -21,7 +21,8 @@ fn is_among(numbers: &[u64], number: u64) -> bool
 
 /// The index of the first file with this name.
 fn find(files: &[NamedFile], name: &[u8]) -> Option<usize>
-    ensures { MatchOption result (text_of name.now files.now ≡ None) (λ i. text_of name.now files.now ≡ Some (rest_at files.now i 0)) }
+    ensures { MatchOption result (text_of name.now files.now ≡ None)
+        (λ i. text_of name.now files.now ≡ Some (rest_at files.now i 0)) }
 {
     for (i, file) in files.iter().enumerate() {
         if file.name.items() == name {
@@ -69,13 +70,29 @@ impl Model for MemFolder {
 
     ghost invariant = { λ s. 1 ≤ s.most };
 
-    ghost view = { λ s. record { files = s.files; failing = s.failing; call = s.call; rest = rest_at s.files s.chosen s.at; most = s.most; faults = s.faults; opened = s.opened } };
+    ghost view = { λ s. record {
+      files = s.files;
+      failing = s.failing;
+      call = s.call;
+      rest = rest_at s.files s.chosen s.at;
+      most = s.most;
+      faults = s.faults;
+      opened = s.opened;
+    } };
 }
 
 impl MemFolder {
     /// No file is the current one, no call was made, and a read gives as much as there is.
     pub fn new(files: FileList, failing: CallList) -> MemFolder
-        ensures { result ≡ record { files = files; failing = failing; call = 0; rest = []; most = 2 ^ 64 - 1; faults = 0; opened = 0 } }
+        ensures { result ≡ record {
+          files = files;
+          failing = failing;
+          call = 0;
+          rest = [];
+          most = 2 ^ 64 - 1;
+          faults = 0;
+          opened = 0;
+        } }
     {
         let chosen = files.items().len();
         MemFolder {
@@ -199,7 +216,14 @@ impl Model for MemSink {
 
     ghost Value = { SinkState };
 
-    ghost view = { λ s. record { written = s.bytes.items; room = s.room; failing = s.failing; call = s.call; most = s.most; faults = s.faults } };
+    ghost view = { λ s. record {
+      written = s.bytes.items;
+      room = s.room;
+      failing = s.failing;
+      call = s.call;
+      most = s.most;
+      faults = s.faults;
+    } };
 
     ghost invariant = { λ s. (s.room ≤ vec_capacity s.bytes) × (length s.bytes.items ≤ s.room) × (1 ≤ s.most) };
 }
@@ -207,7 +231,14 @@ impl Model for MemSink {
 impl MemSink {
     /// Nothing was written. The room for all bytes is taken at once; only that can fail.
     pub fn new(alloc: Global, room: usize, failing: CallList) -> Result<MemSink, NoMemory>
-        ensures { IfOk result (λ s. s ≡ record { written = []; room = room; failing = failing; call = 0; most = 2 ^ 64 - 1; faults = 0 }) }
+        ensures { IfOk result (λ s. s ≡ record {
+          written = [];
+          room = room;
+          failing = failing;
+          call = 0;
+          most = 2 ^ 64 - 1;
+          faults = 0;
+        }) }
     {
         let bytes = Vec::with_capacity(alloc, room)?;
         Ok(MemSink {

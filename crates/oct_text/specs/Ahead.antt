@@ -33,8 +33,10 @@ rest_of place ended bytes = record { place = place; bytes = bytes; ended = ended
 
 -- So many bytes at the front are blanks and a count, and the count ends there however the text goes on.
 abbrev pub HasCount : List ℕ → ℕ → ℕ → Type 0
-HasCount bytes n len = (place : ℕ) (ended : Bool) → TakesCount (rest_of place ended bytes) n (behind len (rest_of place ended bytes))
+HasCount bytes n len = (place : ℕ) (ended : Bool)
+    → TakesCount (rest_of place ended bytes) n (behind len (rest_of place ended bytes))
 
 -- So many bytes at the front are blanks and a coordinate.
 abbrev pub HasWhole : List ℕ → ℤ → ℕ → Type 0
-HasWhole bytes z len = (place : ℕ) (ended : Bool) → TakesWhole (rest_of place ended bytes) z (behind len (rest_of place ended bytes))
+HasWhole bytes z len = (place : ℕ) (ended : Bool)
+    → TakesWhole (rest_of place ended bytes) z (behind len (rest_of place ended bytes))

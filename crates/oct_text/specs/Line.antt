@@ -6,7 +6,8 @@ use Rattle.oct_text.specs.declared.tokens.LineTaken.TheVariants as taken
 
 -- without one CR at its end
 abbrev pub without_cr : List ℕ → List ℕ
-without_cr line = take (if nat_lt 0 (length line) && (slice_index line (length line - 1) == 13) then length line - 1 else length line) line
+without_cr line = take (if nat_lt 0 (length line)
+    && (slice_index line (length line - 1) == 13) then length line - 1 else length line) line
 
 -- What stands at the front of a text: a line, one that is too long, or the end of the text.
 pub data LineFront : Type 0 where
@@ -20,7 +21,8 @@ short_or_long most line = if nat_le (length line) most then IsLine line else IsL
 -- the line at the front, by the first most + 2 bytes
 unfoldable pub line_front : ℕ → List ℕ → LineFront
 line_front most bytes =
-    if nat_lt (line_len bytes) (length bytes) && nat_lt (line_len bytes) (most + 2) then short_or_long most (without_cr (take (line_len bytes) bytes))
+    if nat_lt (line_len bytes) (length bytes) && nat_lt (line_len bytes) (most + 2)
+    then short_or_long most (without_cr (take (line_len bytes) bytes))
     else if nat_le (most + 2) (length bytes) then IsLong
     else NoLine
 

@@ -51,7 +51,8 @@ signed_size negative size = if negative then neg_ℤ (pos size) else pos size
 
 -- at most 40 bytes: a sign or none, and at least one digit
 abbrev pub is_signed_numeral : List ℕ → Bool
-is_signed_numeral text = nat_le (length text) 40 && nat_lt 0 (length (without_sign text)) && are_digits (without_sign text)
+is_signed_numeral text = nat_le (length text) 40 && nat_lt 0 (length (without_sign text))
+    && are_digits (without_sign text)
 
 abbrev pub signed_value : List ℕ → ℤ
 signed_value text = signed_size (is_negative text) (digits_value 10 (without_sign text))
@@ -60,7 +61,8 @@ signed_value text = signed_size (is_negative text) (digits_value 10 (without_sig
 unfoldable pub signed_of : List ℕ → ℤ → ℤ → Result ℤ CountFault
 signed_of text least most =
     if is_signed_numeral text
-    then if int_le least (signed_value text) && int_le (signed_value text) most then Ok (signed_value text) else Err count_faults.Over
+    then if int_le least (signed_value text) && int_le (signed_value text) most then Ok (signed_value text)
+    else Err count_faults.Over
     else Err count_faults.Bad
 
 -- ---- coordinates
@@ -79,12 +81,14 @@ exponent_fits text = nat_lt 0 (length (without_sign text)) && are_digits (withou
 -- digits and a point, and at least one digit
 abbrev pub mantissa_fits : List ℕ → Bool
 mantissa_fits text =
-    are_digits (before_first is_point text) && are_digits (after_first is_point text) && nat_lt 0 (length (before_first is_point text) + length (after_first is_point text))
+    are_digits (before_first is_point text) && are_digits (after_first is_point text)
+    && nat_lt 0 (length (before_first is_point text) + length (after_first is_point text))
 
 -- the quotient of two numbers, where it is whole and at most 2^30
 unfoldable pub whole_quotient : ℕ → ℕ → Result ℕ NumFault
 whole_quotient top bottom =
-    if top % bottom == 0 then (if nat_le (top / bottom) (2 ^ 30) then Ok (top / bottom) else Err faults.Range) else Err faults.NotWhole
+    if top % bottom == 0 then (if nat_le (top / bottom) (2 ^ 30) then Ok (top / bottom) else Err faults.Range)
+    else Err faults.NotWhole
 
 abbrev pub with_sign : Bool → Result ℕ NumFault → Result ℤ NumFault
 with_sign negative (Ok size) = Ok (signed_size negative size)
@@ -93,19 +97,24 @@ with_sign negative (Err fault) = Err fault
 -- Digits, of which so many stand behind the point, with an exponent of this sign and size.
 abbrev pub scaled_by : List ℕ → ℕ → Bool → ℕ → Result ℕ NumFault
 scaled_by digits behind negative size =
-    whole_quotient (digits_value 10 digits * 10 ^ (if negative then 0 else size)) (10 ^ (behind + (if negative then size else 0)))
+    whole_quotient (digits_value 10 digits * 10 ^ (if negative then 0 else size))
+    (10 ^ (behind + (if negative then size else 0)))
 
 abbrev pub scaled : List ℕ → List ℕ → Result ℕ NumFault
 scaled mantissa exponent =
-    scaled_by (before_first is_point mantissa ++ after_first is_point mantissa) (length (after_first is_point mantissa)) (is_negative exponent) (digits_value 10 (without_sign exponent))
+    scaled_by (before_first is_point mantissa ++ after_first is_point mantissa)
+    (length (after_first is_point mantissa)) (is_negative exponent) (digits_value 10 (without_sign exponent))
 
 -- the size that a text without a sign spells
 unfoldable pub size_spelled : List ℕ → Result ℕ NumFault
 size_spelled text =
-    if mantissa_fits (before_first is_e text) && (if list_any is_e text then exponent_fits (after_first is_e text) else true)
+    if mantissa_fits (before_first is_e text) && (if list_any is_e text then exponent_fits (after_first is_e text)
+    else true)
     then scaled (before_first is_e text) (after_first is_e text)
     else Err faults.Bad
 
--- the coordinate that a text spells: an optional sign, digits, an optional point and digits, and an optional exponent, of 40 bytes at most
+-- the coordinate that a text spells: an optional sign, digits, an optional point and digits, and an optional exponent,
+-- of 40 bytes at most
 unfoldable pub coordinate_of : List ℕ → Result ℤ NumFault
-coordinate_of text = if nat_le (length text) 40 then with_sign (is_negative text) (size_spelled (without_sign text)) else Err faults.Bad
+coordinate_of text = if nat_le (length text) 40 then with_sign (is_negative text) (size_spelled (without_sign text))
+    else Err faults.Bad

@@ -17,7 +17,8 @@ from_first p text = drop (position_or_len p text) text
 
 -- the text behind the digits in front of the point: the digits behind the point, and what comes behind them
 pub record IsFraction (text back rest : List ℕ) : Type 0 where
-  pub point : starts is_point text ≡ true → (are_digits back ≡ true) × (text ≡ 46 ∷ back ++ rest) × (starts is_digit rest ≡ false)
+  pub point : starts is_point text ≡ true → (are_digits back ≡ true) × (text ≡ 46 ∷ back ++ rest)
+      × (starts is_digit rest ≡ false)
   pub none : starts is_point text ≡ false → (back ≡ []) × (rest ≡ text)
 
 -- nothing, or an e first

@@ -61,7 +61,8 @@ line_len bytes = position_or_len is_lf bytes
 
 -- what is left behind the first LF, or at the end where there is none
 abbrev pub after_line : Left → Left
-after_line l = if nat_lt (line_len l.bytes) (length l.bytes) then beyond (line_len l.bytes + 1) l else beyond (length l.bytes) l
+after_line l = if nat_lt (line_len l.bytes) (length l.bytes) then beyond (line_len l.bytes + 1) l
+    else beyond (length l.bytes) l
 
 -- the bytes before the first LF are blank
 abbrev pub is_blank_line : List ℕ → Bool

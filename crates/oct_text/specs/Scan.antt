@@ -1,4 +1,5 @@
--- What a scan of digits keeps: the number before a place, as far as it matters, and whether the digits behind the place are all 0.
+-- What a scan of digits keeps: the number before a place, as far as it matters, and whether the digits behind the place
+-- are all 0.
 use Rattle.std.specs.Prelude.{◌≡◌, ℕ, ◌-◌, ◌^◌, ◌<◌, ◌≤◌, Bool, ◌==◌, List, length, take, drop}
 use Rattle.std.specs.List.{list_all}
 use Rattle.std.specs.Str.Parse.{digits_value}

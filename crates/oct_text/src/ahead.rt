@@ -40,8 +40,8 @@ pub fn behind(bytes: &[u8], count: usize) -> &[u8]
     &bytes[count..]
 }
 
-/// The count at the front, where it has at most nine digits, at most three blanks before it and a blank behind it, and at
-/// least 16 bytes are there. It looks at 14 bytes at most.
+/// The count at the front, where it has at most nine digits, at most three blanks before it and a blank behind it, and
+/// at least 16 bytes are there. It looks at 14 bytes at most.
 #[inline(always)]
 pub fn count_front(bytes: &[u8]) -> Option<CountFront>
     ensures within { IfSome result (λ f. f.len ≤ length bytes.now) }
@@ -62,8 +62,8 @@ pub fn count_front(bytes: &[u8]) -> Option<CountFront>
     })
 }
 
-/// The coordinate at the front, where it has at most 40 bytes, at most three blanks before it and a blank behind it, and at
-/// least 64 bytes are there. It looks at 44 bytes at most, each at most three times.
+/// The coordinate at the front, where it has at most 40 bytes, at most three blanks before it and a blank behind it,
+/// and at least 64 bytes are there. It looks at 44 bytes at most, each at most three times.
 pub fn whole_front(bytes: &[u8]) -> Option<WholeFront>
     ensures within { IfSome result (λ f. f.len ≤ length bytes.now) }
     ensures exact { IfSome result (λ f. HasWhole bytes.now f.value f.len) }

@@ -145,7 +145,8 @@ fn with_exponent(front: &[u8], back: &[u8], e: Exponent) -> Result<u64, NumFault
     requires back_digits { are_digits back.now ≡ true }
     requires short { length front.now + length back.now ≤ 40 }
     requires near { e.size ≤ 1000 }
-    ensures exact { (size : ℕ) → e.size ≡ min size 1000 → result ≡ scaled_by (front.now ++ back.now) (length back.now) e.negative size }
+    ensures exact { (size : ℕ) → e.size ≡ min size 1000
+        → result ≡ scaled_by (front.now ++ back.now) (length back.now) e.negative size }
     ensures within { IfOk result (λ n. n ≤ 2 ^ 30) }
 {
     if e.negative {
@@ -189,9 +190,9 @@ fn size_of_number(text: &[u8]) -> Result<u64, NumFault>
 
 /// The coordinate that the text spells: a whole number from -2^30 to 2^30, of at most 40 bytes.
 ///
-/// A sign or none, digits with perhaps a point among them, before or behind them, and perhaps an exponent, `e` or `E` with a
-/// sign or none and digits. The value is taken as an exact fraction: `-0` and `0e999` are 0, `250e-1` is 25, `5e-1` is not
-/// whole. It looks at each byte at most twice, whatever the exponent is.
+/// A sign or none, digits with perhaps a point among them, before or behind them, and perhaps an exponent, `e` or `E`
+/// with a sign or none and digits. The value is taken as an exact fraction: `-0` and `0e999` are 0, `250e-1` is 25,
+/// `5e-1` is not whole. It looks at each byte at most twice, whatever the exponent is.
 #[tactic(auto, unfolding(crate::specs::Numbers::coordinate_of))]
 pub fn whole(text: &[u8]) -> Result<i32, NumFault>
     ensures { result ≡ coordinate_of text.now }

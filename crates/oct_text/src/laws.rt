@@ -63,7 +63,8 @@ pub fn printed_list_is_tokens()
         ++ texts_of (tokens (record { place = place + length (list_spelling ns); bytes = rest })) }
 {}
 
-/// The next token is a longest run of bytes that are no blanks, with only blanks before it. There is none where only blanks are left.
+/// The next token is a longest run of bytes that are no blanks, with only blanks before it. There is none where only
+/// blanks are left.
 pub fn next_token_is_longest_run()
     ensures some { (left : Left) (t : Token × Left) → next_token left ≡ Some t →
         IsLongestRun left t.0 t.1 }

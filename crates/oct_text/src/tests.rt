@@ -253,7 +253,8 @@ fn skipped_lines_of_each_cut(rt: HostRuntime) -> Result<(), Fail> {
     Ok(())
 }
 
-/// The line of at most 256 bytes that is found at the front, as its length, 999 where it is long, 888 where more bytes decide, 777 at the end.
+/// The line of at most 256 bytes that is found at the front, as its length, 999 where it is long, 888 where more bytes
+/// decide, 777 at the end.
 fn line_length(tokens: &mut Tokens) -> usize {
     match tokens.line(256) {
         LineTaken::Line { place: _, text } => text.len(),
@@ -397,7 +398,8 @@ fn has_count(mut tokens: Tokens, want: Option<u64>, may_miss: bool) -> bool {
     }
 }
 
-/// Whether the point ahead has this x, y 2 and z 3, or none is seen where one may be missing, and taking the tokens gives the same.
+/// Whether the point ahead has this x, y 2 and z 3, or none is seen where one may be missing, and taking the tokens
+/// gives the same.
 fn has_point(mut tokens: Tokens, x: Option<i32>, may_miss: bool) -> bool {
     match tokens.point_ahead() {
         Some(point) => {

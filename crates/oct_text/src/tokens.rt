@@ -16,8 +16,8 @@ use std::marker::Model;
 
 /// The tokens and lines of a text that comes in pieces of any size, with their byte places, counted from 0.
 ///
-/// Contracts see it as the bytes that came and were not passed yet, the place of the first of them, and whether the text
-/// ends with them. Bytes that were passed are given up; a token or a line in work is held whole.
+/// Contracts see it as the bytes that came and were not passed yet, the place of the first of them, and whether the
+/// text ends with them. Bytes that were passed are given up; a token or a line in work is held whole.
 #[derive(Drop)]
 pub struct Tokens {
     kept: Vec<u8>,
@@ -119,7 +119,8 @@ impl Tokens {
         }
     }
 
-    /// Gives up the bytes that were passed, once they are as many as the others: a byte is moved only for one that was passed.
+    /// Gives up the bytes that were passed, once they are as many as the others: a byte is moved only for one that was
+    /// passed.
     fn forget(&mut self)
         ensures { self.new ≡ self.old }
     {
@@ -193,8 +194,8 @@ impl Tokens {
         self.place + (self.kept.len() - self.at) as u64
     }
 
-    /// The count that the next token spells, where that is plain: at most nine digits, with at most three blanks before them
-    /// and a blank behind them, and at least 16 bytes came. `None` tells nothing: read the token by `next`.
+    /// The count that the next token spells, where that is plain: at most nine digits, with at most three blanks before
+    /// them and a blank behind them, and at least 16 bytes came. `None` tells nothing: read the token by `next`.
     ///
     /// Nothing is taken: `pass` does that. It looks at 14 bytes at most and takes no memory.
     pub fn count_ahead(&self) -> Option<CountFront>
@@ -209,7 +210,8 @@ impl Tokens {
     /// Nothing is taken. It looks at 70 bytes at most, and at 14 where the first count is another; it takes no memory.
     pub fn row_ahead(&self, size: u64) -> Option<RowAhead>
         ensures within { IfSome result (λ ahead. ahead.len ≤ length self.now.bytes) }
-        ensures exact { IfSome result (λ ahead. TakesCounts self.now (size ∷ ahead.values) (behind ahead.len self.now)) }
+        ensures exact { IfSome result (λ ahead. TakesCounts self.now (size ∷ ahead.values)
+            (behind ahead.len self.now)) }
     {
         let rest = self.rest();
         let head = count_front(rest)?;
@@ -226,13 +228,14 @@ impl Tokens {
         Some(RowAhead { values, len })
     }
 
-    /// The next three coordinates, where each has at most 40 bytes, at most three blanks before it and a blank behind it, and
-    /// at least 64 bytes came from its blanks on. `None` tells nothing.
+    /// The next three coordinates, where each has at most 40 bytes, at most three blanks before it and a blank behind
+    /// it, and at least 64 bytes came from its blanks on. `None` tells nothing.
     ///
     /// Nothing is taken. It looks at 132 bytes at most, each at most three times, and takes no memory.
     pub fn point_ahead(&self) -> Option<PointAhead>
         ensures within { IfSome result (λ ahead. ahead.len ≤ length self.now.bytes) }
-        ensures exact { IfSome result (λ ahead. TakesWholes self.now (ahead.x ∷ ahead.y ∷ ahead.z ∷ []) (behind ahead.len self.now)) }
+        ensures exact { IfSome result (λ ahead. TakesWholes self.now (ahead.x ∷ ahead.y ∷ ahead.z ∷ [])
+            (behind ahead.len self.now)) }
     {
         let rest = self.rest();
         let x = whole_front(rest)?;
@@ -261,9 +264,10 @@ impl Tokens {
 
     /// The next line, of at most so many bytes without its LF and one CR before it.
     ///
-    /// The first `most + 2` bytes decide: with an LF among them the line ends there, and it is long where it has more than
-    /// `most` bytes; with so many bytes and no LF it is long; with fewer bytes more have to come, or the text ends. After
-    /// `Long`, `More` and `End` nothing has changed. It looks at each byte once, however often it answers `More`.
+    /// The first `most + 2` bytes decide: with an LF among them the line ends there, and it is long where it has more
+    /// than `most` bytes; with so many bytes and no LF it is long; with fewer bytes more have to come, or the text
+    /// ends. After `Long`, `More` and `End` nothing has changed. It looks at each byte once, however often it answers
+    /// `More`.
     pub fn line(&mut self, most: usize) -> LineTaken<'_>
         ensures* after { sem 𝓛 (Rests the_row self.entry (λ new. LineBy most self.old result new)) }
     {

@@ -24,8 +24,8 @@ use Rattle.command_words.specs.Words.{command_of, played_of}
 use Rattle.octopus.specs.Demo.{demo_text}
 use Rattle.octopus.specs.Lines.{list_text, answer_text}
 
--- a file that is not there, a refusal, a text, the rings of a box on a mesh up to so many edges, or the report or the watches of
--- a job that is played
+-- a file that is not there, a refusal, a text, the rings of a box on a mesh up to so many edges, or the report or the
+-- watches of a job that is played
 pub data Due : Type 0 where
   Missing : Due
   Refuse : Refusal → Due
@@ -45,7 +45,8 @@ on_mesh (Err fault) go = Refuse (refusals.Mesh fault.kind fault.place)
 -- what is due for a mesh file, where `go` says it of the mesh: first its length counts, then its first fault
 abbrev pub with_mesh : Option (List ℕ) → (MeshView → Due) → Due
 with_mesh None go = Missing
-with_mesh (Some text) go = if nat_lt mesh_limit (length text) then Refuse refusals.LongMesh else on_mesh (mesh_text text) go
+with_mesh (Some text) go = if nat_lt mesh_limit (length text) then Refuse refusals.LongMesh
+    else on_mesh (mesh_text text) go
 
 -- the most bytes of a script
 abbrev pub script_limit : ℕ
@@ -58,15 +59,18 @@ on_script (Err fault) go = Refuse (refusals.Script fault.kind fault.line)
 -- what is due for a script, where `go` says it of what the script says
 abbrev pub with_script : Option (List ℕ) → (ScriptView → Due) → Due
 with_script None go = Missing
-with_script (Some text) go = if nat_lt script_limit (length text) then Refuse refusals.LongScript else on_script (script_text text) go
+with_script (Some text) go = if nat_lt script_limit (length text) then Refuse refusals.LongScript
+    else on_script (script_text text) go
 
 -- what is due for a mesh file and a script, where `go` says it of the job: the script counts once the mesh is accepted
 abbrev pub with_job : Option (List ℕ) → Option (List ℕ) → (JobView → Due) → Due
-with_job mesh_file script_file go = with_mesh mesh_file (λ mesh. with_script script_file (λ script. on_script (checked mesh script) go))
+with_job mesh_file script_file go = with_mesh mesh_file
+    (λ mesh. with_script script_file (λ script. on_script (checked mesh script) go))
 
 -- what is due for step k of a job
 abbrev pub step_due : ℕ → JobView → Due
-step_due k job = if nat_lt (steps job) k then Refuse (refusals.NoStep k (steps job)) else Text (mesh_spelling (step_at job k))
+step_due k job = if nat_lt (steps job) k then Refuse (refusals.NoStep k (steps job))
+    else Text (mesh_spelling (step_at job k))
 
 -- the script in version 2
 abbrev pub upgraded : ScriptView → ScriptView
@@ -80,8 +84,10 @@ due_of (Some (Surface name)) files = with_mesh (files name) (λ mesh. Text (list
 due_of (Some (Gen side)) files = Text (mesh_spelling (block side))
 due_of (Some (Step name script k)) files = with_job (files name) (files script) (step_due k)
 due_of (Some (Upgrade name)) files = with_script (files name) (λ script. Text (script_spelling (upgraded script)))
-due_of (Some (Box name area)) files = with_mesh (files name) (λ mesh. Text (answer_text (route mesh area) (answer mesh area)))
-due_of (Some (Cells name area how)) files = with_mesh (files name) (λ mesh. Text (answer_text (route mesh area) (cells_by how mesh (answer mesh area))))
+due_of (Some (Box name area)) files = with_mesh (files name)
+    (λ mesh. Text (answer_text (route mesh area) (answer mesh area)))
+due_of (Some (Cells name area how)) files = with_mesh (files name)
+    (λ mesh. Text (answer_text (route mesh area) (cells_by how mesh (answer mesh area))))
 due_of (Some (Rings name area most)) files = with_mesh (files name) (λ mesh. Round mesh area most)
 
 -- what is due for these words and these files

@@ -79,4 +79,5 @@ pub record IsReadPast (limit : ℕ) (files : Files) (rest : Option (List ℕ)) :
 -- where a file is refused as too long, it was read so: `due` says what is due for the files
 abbrev pub ReadsPast : Option Files → (Files → Due) → Status → Option (List ℕ) → Type 0
 ReadsPast told due status rest =
-    IfSome told (λ files. (why : Refusal) → due files ≡ Refuse why → status ≡ TooLong → IsReadPast (limit_of why) files rest)
+    IfSome told (λ files. (why : Refusal) → due files ≡ Refuse why → status ≡ TooLong
+    → IsReadPast (limit_of why) files rest)

@@ -36,17 +36,19 @@ Settles due (Err early.Memory) = Unit {0}
 Settles due (Err early.ReadFault) = Unit {0}
 Settles due (Err (early.Refused why)) = due ≡ Refuse why
 
--- The value is what was asked for, or it is refused whatever is to be done with it: `due_with` says what is due where `go` says it of a value.
+-- The value is what was asked for, or it is refused whatever is to be done with it: `due_with` says what is due where
+-- `go` says it of a value.
 abbrev pub Loads : {A : Type 0} → ((A → Due) → Due) → Result A Early → Type 0
 Loads due_with (Ok x) = (go : _ → Due) → due_with go ≡ go x
 Loads due_with (Err early.Memory) = Unit {0}
 Loads due_with (Err early.ReadFault) = Unit {0}
 Loads due_with (Err (early.Refused why)) = (go : _ → Due) → due_with go ≡ Refuse why
 
--- What reads from a folder owes: `told` holds of its files, where they are told; a failed read comes only where the folder's
--- faults rose, which they do once at most, and for nothing else; at most so many files are opened; a file with a fault was read
--- to its end all the same, and one that is too long to one byte past its limit.
-pub record Reads {S A : Type 0} (files : S → Option Files) (rest : S → Option (List ℕ)) (faults opened : S → ℕ) (most : ℕ) (old new : S)
+-- What reads from a folder owes: `told` holds of its files, where they are told; a failed read comes only where the
+-- folder's faults rose, which they do once at most, and for nothing else; at most so many files are opened; a file with
+-- a fault was read to its end all the same, and one that is too long to one byte past its limit.
+pub record Reads {S A : Type 0} (files : S → Option Files) (rest : S → Option (List ℕ)) (faults opened : S → ℕ)
+    (most : ℕ) (old new : S)
     (result : Result A Early) (says : Files → Type 0) : Type 0 where
   pub told : IfSome (files old) says
   pub same : files new ≡ files old
@@ -56,18 +58,21 @@ pub record Reads {S A : Type 0} (files : S → Option Files) (rest : S → Optio
   pub ends : EndsAs ReadFault (status_of result) (faults old) (faults new)
   pub opens : opened new ≤ opened old + most
   pub read_whole : IsBadText (status_of result) → IsAtEnd (rest new)
-  pub past : IfRefused result (λ why. status_of_refusal why ≡ TooLong → IfSome (files old) (λ fs. IsReadPast (limit_of why) fs (rest new)))
+  pub past : IfRefused result (λ why. status_of_refusal why ≡ TooLong
+      → IfSome (files old) (λ fs. IsReadPast (limit_of why) fs (rest new)))
 
--- What a loader owes, where `due_with` says what is due for the files where `go` says it of the value: a file that was loaded was
--- read to its end.
-pub record Brings {S A : Type 0} (files : S → Option Files) (rest : S → Option (List ℕ)) (faults opened : S → ℕ) (most : ℕ) (old new : S)
+-- What a loader owes, where `due_with` says what is due for the files where `go` says it of the value: a file that was
+-- loaded was read to its end.
+pub record Brings {S A : Type 0} (files : S → Option Files) (rest : S → Option (List ℕ)) (faults opened : S → ℕ)
+    (most : ℕ) (old new : S)
     (result : Result A Early) (due_with : Files → (A → Due) → Due) : Type 0 where
   pub reads : Reads files rest faults opened most old new result (λ fs. Loads (due_with fs) result)
   pub form : status_of result ≢ Usage
   pub whole : OnOk result (IsAtEnd (rest new))
 
 -- What a command owes that has a form, where `due` says what is due for the files.
-pub record Owes {S : Type 0} (files : S → Option Files) (rest : S → Option (List ℕ)) (faults opened : S → ℕ) (most : ℕ) (old new : S)
+pub record Owes {S : Type 0} (files : S → Option Files) (rest : S → Option (List ℕ)) (faults opened : S → ℕ)
+    (most : ℕ) (old new : S)
     (result : Result (Vec ℕ Global) Early) (due : Files → Due) : Type 0 where
   pub reads : Reads files rest faults opened most old new result (λ fs. Settles (due fs) result)
   pub form : status_of result ≢ Usage

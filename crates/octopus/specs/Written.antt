@@ -63,13 +63,15 @@ IsBadText BadMesh = Unit {0}
 IsBadText BadScript = Unit {0}
 IsBadText _ = ⊥
 
--- The bytes added are the report of the history that their journal lines print, and all that `Reports` says is true of it.
+-- The bytes added are the report of the history that their journal lines print, and all that `Reports` says is true of
+-- it.
 pub record WritesReport (job : JobView) (old new : Option (List ℕ)) : Type 0 where
   pub text : List ℕ
   pub tells : Reports job text
   pub added : Appends old new text
 
--- The bytes added are the watches of the history that their journal lines print, and all that `Watches` says is true of it.
+-- The bytes added are the watches of the history that their journal lines print, and all that `Watches` says is true of
+-- it.
 pub record WritesWatches (job : JobView) (old new : Option (List ℕ)) : Type 0 where
   pub text : List ℕ
   pub tells : Watches job text

@@ -54,7 +54,8 @@ impl Intake for Held {
 
 /// Reads a mesh from a file.
 pub fn load_mesh<F: Folder>(alloc: Global, name: &str, folder: &mut F) -> Result<Mesh, Early>
-    ensures { Brings F.files F.rest F.faults F.opened 1 folder.old folder.new result (λ files. with_mesh (files name.now)) }
+    ensures { Brings F.files F.rest F.faults F.opened 1 folder.old folder.new result
+        (λ files. with_mesh (files name.now)) }
 {
     let mut reader = MeshReader::new(alloc);
     read_file(
@@ -70,7 +71,8 @@ pub fn load_mesh<F: Folder>(alloc: Global, name: &str, folder: &mut F) -> Result
 
 /// Reads a script from a file. Its bytes are held until it is read.
 pub fn load_script<F: Folder>(alloc: Global, name: &str, folder: &mut F) -> Result<Script, Early>
-    ensures { Brings F.files F.rest F.faults F.opened 1 folder.old folder.new result (λ files. with_script (files name.now)) }
+    ensures { Brings F.files F.rest F.faults F.opened 1 folder.old folder.new result
+        (λ files. with_script (files name.now)) }
 {
     let mut held = Held {
         bytes: Vec::new(alloc),
@@ -88,7 +90,8 @@ pub fn load_script<F: Folder>(alloc: Global, name: &str, folder: &mut F) -> Resu
 
 // Reads a script and checks it on the mesh.
 fn load_on<F: Folder>(alloc: Global, mesh: Mesh, script: &str, folder: &mut F) -> Result<Job, Early>
-    ensures { Brings F.files F.rest F.faults F.opened 1 folder.old folder.new result (λ files go. with_script (files script.now) (λ read. on_script (checked mesh read) go)) }
+    ensures { Brings F.files F.rest F.faults F.opened 1 folder.old folder.new result
+        (λ files go. with_script (files script.now) (λ read. on_script (checked mesh read) go)) }
 {
     let script = load_script(alloc, script, folder)?;
     Ok(Job::check(alloc, mesh, script)?)
@@ -102,7 +105,9 @@ pub fn load_job<F: Folder>(
     script: &str,
     folder: &mut F,
 ) -> Result<Job, Early>
-    ensures { Brings F.files F.rest F.faults F.opened (most_of_job (F.files folder.old) mesh.now) folder.old folder.new result (λ files. with_job (files mesh.now) (files script.now)) }
+    ensures { Brings F.files F.rest F.faults F.opened
+        (most_of_job (F.files folder.old) mesh.now) folder.old folder.new result
+        (λ files. with_job (files mesh.now) (files script.now)) }
 {
     let mesh = load_mesh(alloc, mesh, folder)?;
     load_on(alloc, mesh, script, folder)

@@ -41,7 +41,8 @@ fn feed_piece<F: Folder, I: Intake>(
 ) -> Result<usize, Early>
     requires room { 0 < length buf.old }
     requires fits { I.size taker.old + length buf.old < 2 ^ 64 }
-    ensures fed { (given : List ℕ) → I.holds taker.old given → IfOk result (λ count. Feeds I.holds (F.rest folder.old) (F.rest folder.new) given taker.new count) }
+    ensures fed { (given : List ℕ) → I.holds taker.old given
+        → IfOk result (λ count. Feeds I.holds (F.rest folder.old) (F.rest folder.new) given taker.new count) }
     ensures len { IfOk result (λ count. (count ≤ length buf.new) × (I.size taker.new ≤ I.size taker.old + count)) }
     ensures files { F.files folder.new ≡ F.files folder.old }
     ensures opened { F.opened folder.new ≡ F.opened folder.old }
@@ -120,7 +121,8 @@ pub fn read_file<F: Folder, I: Intake>(
     requires limit { limit_of too_long ≡ limit }
     requires new { I.holds taker.old [] }
     requires none { I.size taker.old ≡ 0 }
-    ensures reads { Reads F.files F.rest F.faults F.opened 1 folder.old folder.new result (λ files. IsTaken I.holds (files name.now) limit too_long taker.new result) }
+    ensures reads { Reads F.files F.rest F.faults F.opened 1 folder.old folder.new result
+        (λ files. IsTaken I.holds (files name.now) limit too_long taker.new result) }
     ensures refused { IfRefused result (λ why. why ≡ too_long) }
     ensures whole { OnOk result (Holds I.holds taker.new limit × IsAtEnd (F.rest folder.new)) }
 {

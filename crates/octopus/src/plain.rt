@@ -29,8 +29,11 @@ use std::alloc::Global;
 // What is to be written. Nothing was written yet.
 #[tactic(auto, unfolding(crate::specs::Due::due, crate::specs::Opened::most_opened))]
 fn prepare<F: Folder>(alloc: Global, words: &[String], folder: &mut F) -> Result<Vec<u8>, Early>
-    ensures reads { Reads F.files F.rest F.faults F.opened (most_opened (map string_bytes words.now) (F.files folder.old)) folder.old folder.new result (λ files. Settles (due (map string_bytes words.now) files) result) }
-    ensures at_once { IfSome (due_of_words (command_of (map string_bytes words.now))) (λ owed. Settles owed result × (status_of result ≢ Status.ReadFault)) }
+    ensures reads { Reads F.files F.rest F.faults F.opened
+        (most_opened (map string_bytes words.now) (F.files folder.old)) folder.old folder.new result
+        (λ files. Settles (due (map string_bytes words.now) files) result) }
+    ensures at_once { IfSome (due_of_words (command_of (map string_bytes words.now)))
+        (λ owed. Settles owed result × (status_of result ≢ Status.ReadFault)) }
     ensures usage { status_of result ≡ Status.Usage → command_of (map string_bytes words.now) ≡ None }
 {
     let Some(command) = read_command(words) else {
@@ -57,8 +60,8 @@ fn prepare<F: Folder>(alloc: Global, words: &[String], folder: &mut F) -> Result
 /// A script is looked for only once the mesh was accepted.
 ///
 /// Its time is that of reading the files once and of the work: for `step` that of each step up to the one that is asked
-/// for, for `box`, `cells` and `rings` that of the mesh's tables and of one answer. It holds the mesh with its tables, the bytes of a script
-/// while they are read, and the text written.
+/// for, for `box`, `cells` and `rings` that of the mesh's tables and of one answer. It holds the mesh with its tables,
+/// the bytes of a script while they are read, and the text written.
 pub fn plain<F: Folder, K: Sink>(
     alloc: Global,
     words: &[String],
@@ -66,13 +69,16 @@ pub fn plain<F: Folder, K: Sink>(
     sink: &mut K,
 ) -> Status
     // Each status comes only where it is due, and what was written is what is due, or its front.
-    ensures told { IfSome (F.files folder.old) (λ files. Gives (due (map string_bytes words.now) files) result (K.written sink.old) (K.written sink.new)) }
+    ensures told { IfSome (F.files folder.old) (λ files.
+        Gives (due (map string_bytes words.now) files) result (K.written sink.old) (K.written sink.new)) }
 
     // The same where the words alone decide, whether or not the folder tells its files.
-    ensures at_once { IfSome (due_of_words (command_of (map string_bytes words.now))) (λ owed. Gives owed result (K.written sink.old) (K.written sink.new) × (result ≢ Status.ReadFault)) }
+    ensures at_once { IfSome (due_of_words (command_of (map string_bytes words.now)))
+        (λ owed. Gives owed result (K.written sink.old) (K.written sink.new) × (result ≢ Status.ReadFault)) }
 
     ensures usage { result ≡ Status.Usage → command_of (map string_bytes words.now) ≡ None }
-    ensures read_fault { result ≡ Status.ReadFault → Rose (F.faults folder.old) (F.faults folder.new) × Keeps (K.written sink.old) (K.written sink.new) }
+    ensures read_fault { result ≡ Status.ReadFault
+        → Rose (F.faults folder.old) (F.faults folder.new) × Keeps (K.written sink.old) (K.written sink.new) }
     ensures write_fault { result ≡ Status.WriteFault → Rose (K.faults sink.old) (K.faults sink.new) }
 
     // A call that failed is the last one that fails, and is told.
@@ -84,16 +90,21 @@ pub fn plain<F: Folder, K: Sink>(
     // Memory is refused before the first byte is written.
     ensures memory { WritesNone result (K.written sink.old) (K.written sink.new) }
 
-    // A file with a fault is read to its end all the same, and of one that is too long exactly one byte past its limit is read.
+    // A file with a fault is read to its end all the same, and of one that is too long exactly one byte past its limit
+    // is read.
     ensures read_whole { IsBadText result → IsAtEnd (F.rest folder.new) }
     ensures read_past { ReadsPast (F.files folder.old) (due (map string_bytes words.now)) result (F.rest folder.new) }
 
-    // Files are opened no more often than the words name some, and once where the folder tells its files and the mesh isn't
-    // accepted.
-    ensures opens { F.opened folder.new ≤ F.opened folder.old + most_opened (map string_bytes words.now) (F.files folder.old) }
+    // Files are opened no more often than the words name some, and once where the folder tells its files and the mesh
+    // isn't accepted.
+    ensures opens { F.opened folder.new ≤ F.opened folder.old
+        + most_opened (map string_bytes words.now) (F.files folder.old) }
 
     // Where the outside did not fail, the status is what is due, or want of memory.
-    ensures complete { IfSome (F.files folder.old) (λ files. ¬ (Rose (F.faults folder.old) (F.faults folder.new)) → ¬ (Rose (K.faults sink.old) (K.faults sink.new)) → (result ≡ Status.Memory) ⊎ (settled (due (map string_bytes words.now) files) ≡ Some result)) }
+    ensures complete { IfSome (F.files folder.old)
+        (λ files. ¬ (Rose (F.faults folder.old) (F.faults folder.new))
+        → ¬ (Rose (K.faults sink.old) (K.faults sink.new))
+        → (result ≡ Status.Memory) ⊎ (settled (due (map string_bytes words.now) files) ≡ Some result)) }
 {
     let outcome = prepare(alloc, words, folder);
     tell(alloc, outcome, sink)

@@ -25,8 +25,8 @@ fn file(alloc: Global, name: &str, text: &[u8]) -> Result<NamedFile, NoMemory> {
     })
 }
 
-// A folder with a mesh `m.vtk` and a script `s.txt`, of which the calls with these numbers fail. It gives at most 7 bytes
-// at once.
+// A folder with a mesh `m.vtk` and a script `s.txt`, of which the calls with these numbers fail. It gives at most 7
+// bytes at once.
 fn folder(
     alloc: Global,
     mesh: &[u8],

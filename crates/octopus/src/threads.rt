@@ -33,8 +33,11 @@ fn prepare_played<R: Threads + Wait + Sync, F: Folder, G: Gate>(
     folder: &mut F,
     gate: &G,
 ) -> Result<Vec<u8>, Early>
-    ensures owes { Owes F.files F.rest F.faults F.opened (most_of_played (played_as (λ name. name.now) played.entry) (F.files folder.old)) folder.old folder.new result (due_of_played (played_as (λ name. name.now) played.entry)) }
-    ensures at_once { IfSome (due_of_played_words (played_as (λ name. name.now) played.entry)) (λ owed. Settles owed result × (status_of result ≢ Status.ReadFault)) }
+    ensures owes { Owes F.files F.rest F.faults F.opened
+        (most_of_played (played_as (λ name. name.now) played.entry)
+        (F.files folder.old)) folder.old folder.new result (due_of_played (played_as (λ name. name.now) played.entry)) }
+    ensures at_once { IfSome (due_of_played_words (played_as (λ name. name.now) played.entry))
+        (λ owed. Settles owed result × (status_of result ≢ Status.ReadFault)) }
 {
     match played {
         Played::Run { mesh, script } => play_script(rt, alloc, mesh, script, folder, gate),
@@ -53,10 +56,14 @@ fn do_all<R: Threads + Wait + Sync, F: Folder, K: Sink, G: Gate>(
     sink: &mut K,
     gate: &G,
 ) -> Status
-    ensures told { IfSome (F.files folder.old) (λ files. Gives (due_with_threads (map string_bytes words.now) files) result (K.written sink.old) (K.written sink.new)) }
-    ensures at_once { IfSome (due_at_once (map string_bytes words.now)) (λ owed. Gives owed result (K.written sink.old) (K.written sink.new) × (result ≢ Status.ReadFault)) }
-    ensures usage { result ≡ Status.Usage → (played_of (map string_bytes words.now) ≡ None) × (command_of (map string_bytes words.now) ≡ None) }
-    ensures read_fault { result ≡ Status.ReadFault → Rose (F.faults folder.old) (F.faults folder.new) × Keeps (K.written sink.old) (K.written sink.new) }
+    ensures told { IfSome (F.files folder.old) (λ files.
+        Gives (due_with_threads (map string_bytes words.now) files) result (K.written sink.old) (K.written sink.new)) }
+    ensures at_once { IfSome (due_at_once (map string_bytes words.now))
+        (λ owed. Gives owed result (K.written sink.old) (K.written sink.new) × (result ≢ Status.ReadFault)) }
+    ensures usage { result ≡ Status.Usage → (played_of (map string_bytes words.now) ≡ None)
+        × (command_of (map string_bytes words.now) ≡ None) }
+    ensures read_fault { result ≡ Status.ReadFault
+        → Rose (F.faults folder.old) (F.faults folder.new) × Keeps (K.written sink.old) (K.written sink.new) }
     ensures write_fault { result ≡ Status.WriteFault → Rose (K.faults sink.old) (K.faults sink.new) }
     ensures read_once { RisesOnce (F.faults folder.old) (F.faults folder.new) }
     ensures read_ends { EndsAs Status.ReadFault result (F.faults folder.old) (F.faults folder.new) }
@@ -64,9 +71,14 @@ fn do_all<R: Threads + Wait + Sync, F: Folder, K: Sink, G: Gate>(
     ensures write_ends { EndsAs Status.WriteFault result (K.faults sink.old) (K.faults sink.new) }
     ensures memory { WritesNone result (K.written sink.old) (K.written sink.new) }
     ensures read_whole { IsBadText result → IsAtEnd (F.rest folder.new) }
-    ensures read_past { ReadsPast (F.files folder.old) (due_with_threads (map string_bytes words.now)) result (F.rest folder.new) }
-    ensures opens { F.opened folder.new ≤ F.opened folder.old + most_opened_with_threads (map string_bytes words.now) (F.files folder.old) }
-    ensures complete { IfSome (F.files folder.old) (λ files. ¬ (Rose (F.faults folder.old) (F.faults folder.new)) → ¬ (Rose (K.faults sink.old) (K.faults sink.new)) → (result ≡ Status.Memory) ⊎ (settled (due_with_threads (map string_bytes words.now) files) ≡ Some result)) }
+    ensures read_past { ReadsPast (F.files folder.old) (due_with_threads (map string_bytes words.now)) result
+        (F.rest folder.new) }
+    ensures opens { F.opened folder.new ≤ F.opened folder.old
+        + most_opened_with_threads (map string_bytes words.now) (F.files folder.old) }
+    ensures complete { IfSome (F.files folder.old)
+        (λ files. ¬ (Rose (F.faults folder.old) (F.faults folder.new))
+        → ¬ (Rose (K.faults sink.old) (K.faults sink.new))
+        → (result ≡ Status.Memory) ⊎ (settled (due_with_threads (map string_bytes words.now) files) ≡ Some result)) }
 {
     let Some(played) = read_played(words) else {
         return plain(alloc, words, folder, sink);
@@ -75,18 +87,18 @@ fn do_all<R: Threads + Wait + Sync, F: Folder, K: Sink, G: Gate>(
     tell(alloc, outcome, sink)
 }
 
-/// Does what the words say: `run MESH SCRIPT`, `watch MESH SCRIPT` and `demo N SEED` by threads, and all other commands as
-/// `plain` does. Files are read from `folder`, and what is due is written to `sink`: the text whole, or the one line of the
-/// refusal.
+/// Does what the words say: `run MESH SCRIPT`, `watch MESH SCRIPT` and `demo N SEED` by threads, and all other commands
+/// as `plain` does. Files are read from `folder`, and what is due is written to `sink`: the text whole, or the one line
+/// of the refusal.
 ///
-/// A run that is done has written the report of one whole legal history of published and pinned steps, for every mesh file,
-/// script and interleaving (`headline`), and a watch what entered and left each box along such a history (`watched`). The text
-/// is made whole before its first byte is written, so a run that memory or a read cuts short writes nothing, and a write that
-/// fails leaves a front of such a report.
+/// A run that is done has written the report of one whole legal history of published and pinned steps, for every mesh
+/// file, script and interleaving (`headline`), and a watch what entered and left each box along such a history
+/// (`watched`). The text is made whole before its first byte is written, so a run that memory or a read cuts short
+/// writes nothing, and a write that fails leaves a front of such a report.
 ///
-/// The workers of a run wait for each other, so nothing promises that the call returns. `gate` is called at certain places of
-/// their work, by which a test may lead a run; a program passes `NoGate`. The memory is that of `plain`, with the steps that
-/// are held at once, the answers, and the text.
+/// The workers of a run wait for each other, so nothing promises that the call returns. `gate` is called at certain
+/// places of their work, by which a test may lead a run; a program passes `NoGate`. The memory is that of `plain`, with
+/// the steps that are held at once, the answers, and the text.
 pub fn octopus<R: Threads + Wait + Sync, F: Folder, K: Sink, G: Gate>(
     rt: &R,
     alloc: Global,
@@ -96,13 +108,17 @@ pub fn octopus<R: Threads + Wait + Sync, F: Folder, K: Sink, G: Gate>(
     gate: &G,
 ) -> Status
     // Each status comes only where it is due, and what was written is what is due, or its front.
-    ensures told { IfSome (F.files folder.old) (λ files. Gives (due_with_threads (map string_bytes words.now) files) result (K.written sink.old) (K.written sink.new)) }
+    ensures told { IfSome (F.files folder.old) (λ files.
+        Gives (due_with_threads (map string_bytes words.now) files) result (K.written sink.old) (K.written sink.new)) }
 
     // The same where the words alone decide, whether or not the folder tells its files.
-    ensures at_once { IfSome (due_at_once (map string_bytes words.now)) (λ owed. Gives owed result (K.written sink.old) (K.written sink.new) × (result ≢ Status.ReadFault)) }
+    ensures at_once { IfSome (due_at_once (map string_bytes words.now))
+        (λ owed. Gives owed result (K.written sink.old) (K.written sink.new) × (result ≢ Status.ReadFault)) }
 
-    ensures usage { result ≡ Status.Usage → (played_of (map string_bytes words.now) ≡ None) × (command_of (map string_bytes words.now) ≡ None) }
-    ensures read_fault { result ≡ Status.ReadFault → Rose (F.faults folder.old) (F.faults folder.new) × Keeps (K.written sink.old) (K.written sink.new) }
+    ensures usage { result ≡ Status.Usage → (played_of (map string_bytes words.now) ≡ None)
+        × (command_of (map string_bytes words.now) ≡ None) }
+    ensures read_fault { result ≡ Status.ReadFault
+        → Rose (F.faults folder.old) (F.faults folder.new) × Keeps (K.written sink.old) (K.written sink.new) }
     ensures write_fault { result ≡ Status.WriteFault → Rose (K.faults sink.old) (K.faults sink.new) }
 
     // A call that failed is the last one that fails, and is told.
@@ -114,22 +130,33 @@ pub fn octopus<R: Threads + Wait + Sync, F: Folder, K: Sink, G: Gate>(
     // Memory is refused before the first byte is written.
     ensures memory { WritesNone result (K.written sink.old) (K.written sink.new) }
 
-    // A file with a fault is read to its end all the same, and of one that is too long exactly one byte past its limit is read.
+    // A file with a fault is read to its end all the same, and of one that is too long exactly one byte past its limit
+    // is read.
     ensures read_whole { IsBadText result → IsAtEnd (F.rest folder.new) }
-    ensures read_past { ReadsPast (F.files folder.old) (due_with_threads (map string_bytes words.now)) result (F.rest folder.new) }
+    ensures read_past { ReadsPast (F.files folder.old) (due_with_threads (map string_bytes words.now)) result
+        (F.rest folder.new) }
 
-    // Files are opened no more often than the words name some, and once where the folder tells its files and the mesh isn't
-    // accepted.
-    ensures opens { F.opened folder.new ≤ F.opened folder.old + most_opened_with_threads (map string_bytes words.now) (F.files folder.old) }
+    // Files are opened no more often than the words name some, and once where the folder tells its files and the mesh
+    // isn't accepted.
+    ensures opens { F.opened folder.new ≤ F.opened folder.old
+        + most_opened_with_threads (map string_bytes words.now) (F.files folder.old) }
 
     // Where the outside did not fail, the status is what is due, or want of memory.
-    ensures complete { IfSome (F.files folder.old) (λ files. ¬ (Rose (F.faults folder.old) (F.faults folder.new)) → ¬ (Rose (K.faults sink.old) (K.faults sink.new)) → (result ≡ Status.Memory) ⊎ (settled (due_with_threads (map string_bytes words.now) files) ≡ Some result)) }
+    ensures complete { IfSome (F.files folder.old)
+        (λ files. ¬ (Rose (F.faults folder.old) (F.faults folder.new))
+        → ¬ (Rose (K.faults sink.old) (K.faults sink.new))
+        → (result ≡ Status.Memory) ⊎ (settled (due_with_threads (map string_bytes words.now) files) ≡ Some result)) }
 
-    // A run that is done has written the report of one whole history: that which the journal lines of the bytes added print.
-    ensures headline { IfSome (F.files folder.old) (λ files. (job : JobView) → due_with_threads (map string_bytes words.now) files ≡ Play job → result ≡ Status.Done → WritesReport job (K.written sink.old) (K.written sink.new)) }
+    // A run that is done has written the report of one whole history: that which the journal lines of the bytes added
+    // print.
+    ensures headline { IfSome (F.files folder.old)
+        (λ files. (job : JobView) → due_with_threads (map string_bytes words.now) files ≡ Play job
+        → result ≡ Status.Done → WritesReport job (K.written sink.old) (K.written sink.new)) }
 
     // The same of the watches of a run: they are those of the history that their own journal lines print.
-    ensures watched { IfSome (F.files folder.old) (λ files. (job : JobView) → due_with_threads (map string_bytes words.now) files ≡ Watched job → result ≡ Status.Done → WritesWatches job (K.written sink.old) (K.written sink.new)) }
+    ensures watched { IfSome (F.files folder.old)
+        (λ files. (job : JobView) → due_with_threads (map string_bytes words.now) files ≡ Watched job
+        → result ≡ Status.Done → WritesWatches job (K.written sink.old) (K.written sink.new)) }
 {
     do_all(rt, alloc, words, folder, sink, gate)
 }

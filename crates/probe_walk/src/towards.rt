@@ -43,8 +43,9 @@ fn next_of<L: Ledger>(
     }
 }
 
-/// The end of the walk from a vertex: on to the nearest of its neighbours, if that is nearer to the box than it is, and so
-/// on. It reads the place of the first vertex and those of the neighbours of each vertex on the way, and takes no memory.
+/// The end of the walk from a vertex: on to the nearest of its neighbours, if that is nearer to the box than it is, and
+/// so on. It reads the place of the first vertex and those of the neighbours of each vertex on the way, and takes no
+/// memory.
 pub fn walk<L: Ledger>(step: &Step, area: &BoxQ, from: u32, reads: &mut Steps<L>) -> WalkEnd
     requires from { Contains (vertices step.now.mesh) from }
     ensures end { IsEndOf step.now.mesh area.now from result }

@@ -27,8 +27,8 @@ PinsNeverFall job h =
 abbrev pub area_of : JobView → Answer → Area
 area_of job a = area_at (turns_of job a.session) a.query
 
--- The answer names a step of the job. Its list is ascending without repeats and lies in the scan of that step. Where the
--- box is covered, it is the scan.
+-- The answer names a step of the job. Its list is ascending without repeats and lies in the scan of that step. Where
+-- the box is covered, it is the scan.
 pub record IsTrueAnswer (job : JobView) (a : Answer) : Type 0 where
   pub published : a.step ≤ steps job
   pub ascending : IsStrictlyIncreasing a.vertices
@@ -63,7 +63,8 @@ pub record IsWholeRun (job : JobView) (h : List Event) : Type 0 where
   pub answers : AnswersAreTrue job h
   pub freed : FreesExactly job h
 
--- The text is the report of the history that its journal lines print, that history is whole, and the rest is true of it.
+-- The text is the report of the history that its journal lines print, that history is whole, and the rest is true of
+-- it.
 pub record Reports (job : JobView) (text : List ℕ) : Type 0 where
   pub history : List Event
   pub printed : printed_journal text ≡ Some history

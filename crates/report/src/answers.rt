@@ -38,7 +38,8 @@ pub fn count_boxes(turns: &[SessionTurn]) -> u32
 
 // Which box it is, and at which step it was answered.
 fn put_place(alloc: Global, out: &mut Vec<u8>, answer: &Answer) -> Result<(), NoMemory>
-    ensures { OnOk result (out.new.items ≡ out.old.items ++ (codes "box " ++ decimal answer.now.query ++ codes " step " ++ decimal answer.now.step)) }
+    ensures { OnOk result (out.new.items ≡ out.old.items
+        ++ (codes "box " ++ decimal answer.now.query ++ codes " step " ++ decimal answer.now.step)) }
 {
     put_labelled(alloc, out, b"box ", u64::from(answer.query))?;
     put_labelled(alloc, out, b" step ", u64::from(answer.step))
@@ -46,7 +47,8 @@ fn put_place(alloc: Global, out: &mut Vec<u8>, answer: &Answer) -> Result<(), No
 
 // How an answer was found, how many vertices it has, and a line feed.
 fn put_found(alloc: Global, out: &mut Vec<u8>, route: Route, count: usize) -> Result<(), NoMemory>
-    ensures { OnOk result (out.new.items ≡ out.old.items ++ line (codes " route " ++ route_word route ++ codes " count " ++ decimal count)) }
+    ensures { OnOk result (out.new.items ≡ out.old.items
+        ++ line (codes " route " ++ route_word route ++ codes " count " ++ decimal count)) }
 {
     put_text(alloc, out, b" route ")?;
     put_text(alloc, out, name_of_route(route).as_bytes())?;
@@ -76,7 +78,8 @@ fn put_answer_of(
     answer: &Answer,
     session: u32,
 ) -> Result<(), NoMemory>
-    ensures { OnOk result (out.new.items ≡ out.old.items ++ flat_map answer_text (filter (of_session session) (answer.now ∷ []))) }
+    ensures { OnOk result (out.new.items ≡ out.old.items
+        ++ flat_map answer_text (filter (of_session session) (answer.now ∷ []))) }
 {
     if answer.session == session {
         put_answer(alloc, out, answer)
@@ -92,7 +95,8 @@ fn put_answers(
     answers: &[Answer],
     session: u32,
 ) -> Result<(), NoMemory>
-    ensures { OnOk result (out.new.items ≡ out.old.items ++ flat_map answer_text (filter (of_session session) answers.now)) }
+    ensures { OnOk result (out.new.items ≡ out.old.items
+        ++ flat_map answer_text (filter (of_session session) answers.now)) }
 {
     for answer in answers {
         put_answer_of(alloc, out, answer, session)?;
@@ -137,7 +141,8 @@ pub(crate) fn put_sessions(
     job: &Job,
     answers: &[Answer],
 ) -> Result<(), NoMemory>
-    ensures { OnOk result (out.new.items ≡ out.old.items ++ sessions_part job.now answers.now (length job.now.sessions)) }
+    ensures { OnOk result (out.new.items ≡ out.old.items
+        ++ sessions_part job.now answers.now (length job.now.sessions)) }
 {
     for session in 0..job.sessions() {
         put_session(alloc, out, job, answers, session)?;

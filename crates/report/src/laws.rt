@@ -10,7 +10,8 @@ ghost use Rattle.report.specs.Headline.{PinsNeverFall, BoxesInOrder, AnswersAreT
 
 /// The journal lines of a report print its history.
 pub fn journals_are_printed()
-    ensures { (job : JobView) (h : List Event) → IsJob job → IsWhole job h → printed_journal (report_text job h) ≡ Some h }
+    ensures { (job : JobView) (h : List Event) → IsJob job → IsWhole job h
+        → printed_journal (report_text job h) ≡ Some h }
 {}
 
 /// The steps that a session pins never fall, and each is at least the need of its turn.
@@ -23,7 +24,8 @@ pub fn boxes_are_listed()
     ensures { (job : JobView) (h : List Event) → IsWhole job h → BoxesInOrder job h }
 {}
 
-/// Each listed answer is ascending, lies in the scan of the step that it names, and is that scan where the box is covered.
+/// Each listed answer is ascending, lies in the scan of the step that it names, and is that scan where the box is
+/// covered.
 pub fn listed_answers_are_true()
     ensures { (job : JobView) (h : List Event) → IsWhole job h → AnswersAreTrue job h }
 {}
@@ -45,5 +47,6 @@ pub fn reports_hold()
 
 /// A session whose turns all need the last step has its answers at that step, whatever the history.
 pub fn last_steps_are_met()
-    ensures { (job : JobView) (h : List Event) (s : ℕ) → IsWhole job h → s < length job.sessions → NeedsLast job s → listed job h s ≡ answered_last job s }
+    ensures { (job : JobView) (h : List Event) (s : ℕ) → IsWhole job h → s < length job.sessions → NeedsLast job s
+        → listed job h s ≡ answered_last job s }
 {}

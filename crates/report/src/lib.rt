@@ -1,8 +1,8 @@
 //! The report of a run: its text, and what the text tells of the run's history.
 //!
-//! `whole_report` makes the text of a registry whose journal is whole, and `report` appends it. What the text is stands in
-//! `specs/Report.antt`; the history that a text prints in `specs/Printed.antt`; what is true of it in `specs/Headline.antt`.
-//! The functions of `laws` have the proofs that this follows from the definitions.
+//! `whole_report` makes the text of a registry whose journal is whole, and `report` appends it. What the text is stands
+//! in `specs/Report.antt`; the history that a text prints in `specs/Printed.antt`; what is true of it in
+//! `specs/Headline.antt`. The functions of `laws` have the proofs that this follows from the definitions.
 //!
 //! The lines that other texts of a run share are public too.
 #![tactic(auto)]

@@ -44,7 +44,8 @@ pub(crate) fn put_pair_line(
     first: u32,
     second: u32,
 ) -> Result<(), NoMemory>
-    ensures { OnOk result (out.new.items ≡ out.old.items ++ line (label.now ++ decimal first ++ codes " " ++ decimal second)) }
+    ensures { OnOk result (out.new.items ≡ out.old.items
+        ++ line (label.now ++ decimal first ++ codes " " ++ decimal second)) }
 {
     put_labelled(alloc, out, label, u64::from(first))?;
     put_labelled_line(alloc, out, b" ", u64::from(second))
@@ -61,7 +62,8 @@ pub fn put_list_line(alloc: Global, out: &mut Vec<u8>, numbers: &[u32]) -> Resul
     put_text(alloc, out, b"\n")
 }
 
-/// Appends the lines that say how many steps and how many sessions a job has. After an error a part of them may stand in `out`.
+/// Appends the lines that say how many steps and how many sessions a job has. After an error a part of them may stand
+/// in `out`.
 pub fn put_sizes(alloc: Global, out: &mut Vec<u8>, job: &Job) -> Result<(), NoMemory>
     ensures { OnOk result (out.new.items ≡ out.old.items ++ sizes_text job.now) }
 {

@@ -15,8 +15,8 @@ use run_script::Job;
 use std::alloc::Global;
 use step_registry::{Event, Registry};
 
-// Room in bytes for the lines that each report has, for the line of an event, for the line of a box, and for a vertex and
-// what stands behind it. A vertex is below 1,000,000 and a step at most 10,000, so a report seldom needs more.
+// Room in bytes for the lines that each report has, for the line of an event, for the line of a box, and for a vertex
+// and what stands behind it. A vertex is below 1,000,000 and a step at most 10,000, so a report seldom needs more.
 const FRONT_ROOM: usize = 1024;
 
 const EVENT_ROOM: usize = 16;
@@ -82,9 +82,9 @@ fn report_of(alloc: Global, registry: &Registry) -> Result<Vec<u8>, NoMemory>
 
 /// The report of a registry whose journal is whole.
 ///
-/// The text's journal lines print the journal, and all that is said of a whole run is true of it. It goes over the answers
-/// once for each session and over the journal once, after one pass that finds how much room the text needs; the text is
-/// reserved at once.
+/// The text's journal lines print the journal, and all that is said of a whole run is true of it. It goes over the
+/// answers once for each session and over the journal once, after one pass that finds how much room the text needs; the
+/// text is reserved at once.
 pub fn whole_report(alloc: Global, registry: &Registry) -> Result<Vec<u8>, NoMemory>
     requires { IsWhole registry.now.job registry.now.journal }
     ensures text { IfOk result (λ text. text.items ≡ report_text registry.now.job registry.now.journal) }

@@ -17,7 +17,8 @@ greatest_wait (item.Free ∷ items) = greatest_wait items
 abbrev pub asks_after : List Item → List Item → List (ℕ × Area)
 asks_after before [] = []
 asks_after before (item.Wait line step ∷ items) = asks_after (before ++ item.Wait line step ∷ []) items
-asks_after before (item.Ask area ∷ items) = (greatest_wait before, area) ∷ asks_after (before ++ item.Ask area ∷ []) items
+asks_after before (item.Ask area ∷ items) = (greatest_wait before, area)
+    ∷ asks_after (before ++ item.Ask area ∷ []) items
 asks_after before (item.Hold ∷ items) = asks_after (before ++ item.Hold ∷ []) items
 asks_after before (item.Free ∷ items) = asks_after (before ++ item.Free ∷ []) items
 

@@ -17,15 +17,15 @@ use Rattle.run_script.specs.declared.script.Item.{Item}
 use Rattle.run_script.specs.declared.script.Item.TheVariants as item
 use Rattle.run_script.specs.Faults.{Fault, fault}
 use Rattle.run_script.specs.Scripts.{ScriptView, most_steps, most_edits, most_sessions, most_boxes, IsPlan, edit_count}
-use Rattle.mesh_base.specs.Limits.{most_cells, most_points}
+use Rattle.mesh_base.specs.Limits.{most_cells, most_points, most_to_split}
 
 -- ---- turns
 
 abbrev pub turn : ℕ → List Area → SessionTurn
 turn need areas = record { need = need; areas = areas }
 
--- The turns of a session's items: each box outside a hold by itself, and the boxes of a hold together. `need` is the greatest wait so far, and the
--- boxes of the hold that is open are given, where one is.
+-- The turns of a session's items: each box outside a hold by itself, and the boxes of a hold together. `need` is the
+-- greatest wait so far, and the boxes of the hold that is open are given, where one is.
 abbrev pub turns_from : ℕ → Option (List Area) → List Item → List SessionTurn
 turns_from need hold [] = []
 turns_from need hold (item.Wait line step ∷ items) = turns_from (max need step) hold items
@@ -92,7 +92,8 @@ has_points n c = nat_lt c.0 n && (nat_lt c.1 n && (nat_lt c.2 n && nat_lt c.3 n)
 
 abbrev pub are_different : Corners → Bool
 are_different c =
-    not (c.0 == c.1) && (not (c.0 == c.2) && (not (c.0 == c.3) && (not (c.1 == c.2) && (not (c.1 == c.3) && not (c.2 == c.3)))))
+    not (c.0 == c.1) && (not (c.0 == c.2) && (not (c.0 == c.3)
+    && (not (c.1 == c.2) && (not (c.1 == c.3) && not (c.2 == c.3)))))
 
 -- the first fault of an edit on a mesh, of which only the number of points and the cells matter
 unfoldable pub edit_fault : MeshView → Edit → Option ScriptKind
@@ -105,7 +106,7 @@ edit_fault mesh (edit.Add corners) =
 edit_fault mesh (edit.Remove i) = if is_some (cell_at mesh.cells i) then None else Some kinds.NoCell
 edit_fault mesh (edit.Split i at) =
     if not (is_some (cell_at mesh.cells i)) then Some kinds.NoCell
-    else if nat_lt (length mesh.points) most_points && nat_le (length mesh.cells) 3999996 then None
+    else if nat_lt (length mesh.points) most_points && nat_le (length mesh.cells) most_to_split then None
     else Some kinds.Limit
 
 abbrev pub or_else : {A : Type 0} → Option A → Option A → Option A
@@ -119,12 +120,14 @@ fault_on line (Some kind) = Some (fault kind line)
 -- the first fault of edits, each on the mesh that the ones before it leave
 unfoldable pub edits_fault : MeshView → List LinedEdit → Option Fault
 edits_fault mesh [] = None
-edits_fault mesh (e ∷ edits) = or_else (fault_on e.line (edit_fault mesh e.edit)) (edits_fault (edited mesh e.edit) edits)
+edits_fault mesh (e ∷ edits) = or_else (fault_on e.line (edit_fault mesh e.edit))
+    (edits_fault (edited mesh e.edit) edits)
 
 -- the first wait for a step above the number of steps
 unfoldable pub wait_fault : ℕ → List Item → Option Fault
 wait_fault steps [] = None
-wait_fault steps (item.Wait line step ∷ items) = if nat_le step steps then wait_fault steps items else Some (fault kinds.NoStep line)
+wait_fault steps (item.Wait line step ∷ items) = if nat_le step steps then wait_fault steps items
+    else Some (fault kinds.NoStep line)
 wait_fault steps (item.Ask area ∷ items) = wait_fault steps items
 wait_fault steps (item.Hold ∷ items) = wait_fault steps items
 wait_fault steps (item.Free ∷ items) = wait_fault steps items
@@ -145,7 +148,8 @@ unless x (Some f) = Err f
 
 -- the first fault of a script on a mesh: of the edits, and then of the waits
 abbrev pub script_fault : MeshView → ScriptView → Option Fault
-script_fault mesh script = or_else (edits_fault mesh (edits_of script.plans)) (wait_fault (length script.plans) (items_of script.sessions))
+script_fault mesh script = or_else (edits_fault mesh (edits_of script.plans))
+    (wait_fault (length script.plans) (items_of script.sessions))
 
 -- the job, or the first fault
 unfoldable pub checked : MeshView → ScriptView → Result JobView Fault

@@ -42,7 +42,8 @@ IsEdit (edit.Split i at) = (i < 2 ^ 32) × IsPlace at
 abbrev pub IsKernel : Kernel → Type 0
 IsKernel kernel.Stay = Unit {0}
 IsKernel (kernel.Shift dx dy dz) = IsPlace (dx, dy, dz)
-IsKernel (kernel.Pull to num den) = IsPlace to × (neg_ℤ (pos 1024) ≤ℤ num) × (num ≤ℤ pos 1024) × (pos 1 ≤ℤ den) × (den ≤ℤ pos 1024)
+IsKernel (kernel.Pull to num den) = IsPlace to × (neg_ℤ (pos 1024) ≤ℤ num) × (num ≤ℤ pos 1024) × (pos 1 ≤ℤ den)
+    × (den ≤ℤ pos 1024)
 IsKernel (kernel.Shake seed amp) = (seed ≤ 65535) × (amp ≤ 1000)
 IsKernel kernel.Relax = Unit {0}
 IsKernel (kernel.Turn axis) = Unit {0}
@@ -60,7 +61,8 @@ pub record IsPlan (plan : Plan) : Type 0 where
 
 -- ---- holds
 
--- the items close the hold that is open with so many boxes, and each of theirs: a hold has its free, with a box or more and nothing else between them
+-- the items close the hold that is open with so many boxes, and each of theirs: a hold has its free, with a box or more
+-- and nothing else between them
 abbrev pub HoldsClose : Option ℕ → List Item → Type 0
 HoldsClose None [] = Unit {0}
 HoldsClose (Some boxes) [] = ⊥

@@ -132,7 +132,8 @@ impl Tally {
     /// Splits a cell.
     #[tactic(auto, unfolding(crate::specs::Jobs::edit_fault))]
     fn take_split(&mut self, line: u32, cell: u32, at: Point) -> Result<(), ScriptFault>
-        ensures { (mesh : MeshView) → Matches mesh self.old → TakesEdit mesh line (edits.Split cell at) result self.new }
+        ensures { (mesh : MeshView) → Matches mesh self.old
+            → TakesEdit mesh line (edits.Split cell at) result self.new }
     {
         let _ = at;
         if !self.is_live(cell) {

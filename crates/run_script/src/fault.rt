@@ -50,7 +50,8 @@ pub enum ScriptKind {
 /// Why there is no script, or no job.
 #[derive(Clone, Copy, Debug, PartialEq, Eq, Error)]
 pub enum ScriptFault {
-    /// What is wrong first, and the line where, counted from 1. Where the text ends too early it is the number of lines.
+    /// What is wrong first, and the line where, counted from 1. Where the text ends too early it is the number of
+    /// lines.
     #[error("line {line}: {kind}")]
     Bad { kind: ScriptKind, line: u32 },
     /// Memory was refused.

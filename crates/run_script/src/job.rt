@@ -82,7 +82,8 @@ impl TurnList {
     }
 }
 
-/// A mesh, and a script that fits it: each edit fits the mesh that it comes to, and no wait is for a step that never comes.
+/// A mesh, and a script that fits it: each edit fits the mesh that it comes to, and no wait is for a step that never
+/// comes.
 #[derive(Drop)]
 pub struct Job {
     mesh: Arc<Mesh>,
@@ -108,12 +109,13 @@ impl Job {
     ghost use Rattle.run_script.specs.Scripts.{IsPlan};
     ghost use Rattle.run_script.specs.Jobs.{IsJob, IsTurn, EditsFit, checked, step_at, plan_at, turns_of, box_count, turn_count, all_boxes};
 
-    /// The job of a mesh and a script, or the first fault: of the edits, each on the mesh that the ones before it leave, and then of the waits.
+    /// The job of a mesh and a script, or the first fault: of the edits, each on the mesh that the ones before it
+    /// leave, and then of the waits.
     ///
-    /// An edit is refused where it names a point or a live cell that isn't there, where it adds a cell with a corner twice, and
-    /// where the mesh would have more than 1,000,000 points or 4,000,000 cells; a wait where its step is above the number of
-    /// plans. It takes a byte for each cell of the mesh while it checks, and its time is that of the edits and one look at each
-    /// cell. The mesh isn't copied.
+    /// An edit is refused where it names a point or a live cell that isn't there, where it adds a cell with a corner
+    /// twice, and where the mesh would have more than 1,000,000 points or 4,000,000 cells; a wait where its step is
+    /// above the number of plans. It takes a byte for each cell of the mesh while it checks, and its time is that of
+    /// the edits and one look at each cell. The mesh isn't copied.
     #[tactic(auto, unfolding(crate::specs::Jobs::checked))]
     pub fn check(alloc: Global, mesh: Mesh, script: Script) -> Result<Job, ScriptFault>
         ensures { Agrees result (checked mesh script) }
@@ -128,8 +130,8 @@ impl Job {
         })
     }
 
-    /// The job of a mesh alone, without plans and sessions. Nothing is checked, and no list is copied: it takes memory for the
-    /// count of those that share the mesh. After AllocError the mesh is gone.
+    /// The job of a mesh alone, without plans and sessions. Nothing is checked, and no list is copied: it takes memory
+    /// for the count of those that share the mesh. After AllocError the mesh is gone.
     pub fn still(alloc: Global, mesh: Mesh) -> Result<Job, AllocError>
         ensures mesh { IfOk result (λ job. job.mesh ≡ mesh) }
         ensures plans { IfOk result (λ job. job.plans ≡ []) }

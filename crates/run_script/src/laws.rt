@@ -13,8 +13,8 @@ pub fn edits_without_fault_are_those_that_fit()
     ensures { (mesh : MeshView) (edit : Edit) → (edit_fault mesh edit ≡ None) ↔ EditFits mesh edit }
 {}
 
-/// The boxes of a session's turns, one turn after the other, are the boxes of its items in order, and the need of each one's turn is
-/// the greatest wait before it, or 0. Each hold of the items has its end.
+/// The boxes of a session's turns, one turn after the other, are the boxes of its items in order, and the need of each
+/// one's turn is the greatest wait before it, or 0. Each hold of the items has its end.
 pub fn turns_have_the_boxes_in_order()
     ensures { (items : List Item) → HoldsClose None items → boxes_of (turns items) ≡ asks_of items }
 {}

@@ -34,9 +34,10 @@ pub enum Item {
 
 /// A script: its version, a plan for each step, and its sessions.
 ///
-/// It has version 1 or 2, at most 10,000 plans with at most 1,000,000 edits together, and at most 8 sessions with at most
-/// 100,000 boxes together. Each number is in the range that the text allows for it. Holds stand in version 2 alone. Each hold
-/// has its free later in its session, with one box or more and nothing else between them, and each free its hold.
+/// It has version 1 or 2, at most 10,000 plans with at most 1,000,000 edits together, and at most 8 sessions with at
+/// most 100,000 boxes together. Each number is in the range that the text allows for it. Holds stand in version 2
+/// alone. Each hold has its free later in its session, with one box or more and nothing else between them, and each
+/// free its hold.
 #[derive(Drop)]
 pub struct Script {
     version: u32,
@@ -58,9 +59,9 @@ impl Script {
     ghost use Rattle.std.specs.Prelude.{◌≡◌};
     ghost use Rattle.run_script.specs.Scripts.{IsScript};
 
-    /// The script of these parts. They have to keep what each script keeps, as it is said above: the version is 1 or 2, the
-    /// plans, edits, sessions and boxes are within the limits, each number is in its range, and each hold is closed. No plans
-    /// and no sessions are a script too. It takes no memory and copies nothing.
+    /// The script of these parts. They have to keep what each script keeps, as it is said above: the version is 1 or 2,
+    /// the plans, edits, sessions and boxes are within the limits, each number is in its range, and each hold is
+    /// closed. No plans and no sessions are a script too. It takes no memory and copies nothing.
     pub fn of(version: u32, plans: PlanList, sessions: SessionList) -> Script
         requires { IsScript (record { version = version; plans = plans; sessions = sessions }) }
         ensures { result ≡ record { version = version; plans = plans; sessions = sessions } }

@@ -27,7 +27,8 @@ impl Turning {
 
     /// Ends a turn.
     fn push(&mut self, areas: Vec<BoxQ>) -> Result<(), AllocError>
-        ensures turns { OnOk result (self.new.turns.items ≡ self.old.turns.items ++ turn self.old.need areas.items ∷ []) }
+        ensures turns { OnOk result (self.new.turns.items
+            ≡ self.old.turns.items ++ turn self.old.need areas.items ∷ []) }
         ensures need { self.new.need ≡ self.old.need }
         ensures hold { self.new.hold ≡ self.old.hold }
     {
@@ -39,7 +40,8 @@ impl Turning {
 
     /// Takes a box.
     fn ask(&mut self, alloc: Global, area: BoxQ) -> Result<(), AllocError>
-        ensures { (rest : List Item) → OnOk result (turns_with self.new rest ≡ turns_with self.old (items.Ask area ∷ rest)) }
+        ensures { (rest : List Item) → OnOk result
+            (turns_with self.new rest ≡ turns_with self.old (items.Ask area ∷ rest)) }
     {
         match self.hold.take() {
             None => {
@@ -58,7 +60,8 @@ impl Turning {
 
     /// Ends a hold.
     fn free(&mut self) -> Result<(), AllocError>
-        ensures { (rest : List Item) → OnOk result (turns_with self.new rest ≡ turns_with self.old (items.Free ∷ rest)) }
+        ensures { (rest : List Item) → OnOk result
+            (turns_with self.new rest ≡ turns_with self.old (items.Free ∷ rest)) }
     {
         match self.hold.take() {
             None => Ok(()),

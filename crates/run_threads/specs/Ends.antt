@@ -29,7 +29,8 @@ IsOver need words = (n : ℕ) × (rest : List ℕ) × (words ≡ (2 * n + 1) ∷
 -- nothing is out, and the session was stopped, or all turns are done or the plan ended before the need of the next one
 abbrev pub Stops : Bool → SessionView → Type 0
 Stops true v = ((state_of v).out ≡ None) × ((state_of v).is_stopped ≡ true)
-Stops false v = ((state_of v).out ≡ None) × (((state_of v).done ≡ length (turns_of v.job v.session)) ⊎ IsOver (next_turn v).need v.words)
+Stops false v = ((state_of v).out ≡ None) × (((state_of v).done ≡ length (turns_of v.job v.session))
+    ⊎ IsOver (next_turn v).need v.words)
 
 -- a session's seat before its part
 pub record IsFresh (lock : TableId) (job : JobView) (v : SessionView) : Type 0 where
@@ -57,7 +58,8 @@ pub record IsReady (lock : TableId) (v : PublisherView) (maker : MakerView) : Ty
 
 -- ---- how a run ends
 
--- where a session stands in a run that was cut short: all turns done, or stopped, or before a need above the newest step
+-- where a session stands in a run that was cut short: all turns done, or stopped, or before a need above the newest
+-- step
 abbrev pub Rests : JobView → List Event → ℕ → Type 0
 Rests job h s =
     ((session_of (after job h) s).done ≡ length (turns_of job s))
@@ -66,7 +68,8 @@ Rests job h s =
 
 -- not all steps were published, or some session was stopped
 abbrev pub WasRefused : JobView → List Event → Type 0
-WasRefused job h = ((after job h).newest < steps job) ⊎ ((s : ℕ) × (s < length job.sessions) × ((session_of (after job h) s).is_stopped ≡ true))
+WasRefused job h = ((after job h).newest < steps job)
+    ⊎ ((s : ℕ) × (s < length job.sessions) × ((session_of (after job h) s).is_stopped ≡ true))
 
 -- a run that memory cut short
 pub record IsCutShort (job : JobView) (h : List Event) : Type 0 where

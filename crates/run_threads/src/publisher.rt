@@ -65,8 +65,8 @@ fn publish_all<R: Threads + Wait + Sync, G: Gate>(
     Ok(())
 }
 
-/// The part of the publisher in a run: it publishes the steps up to the last one, or to one that is refused memory, and then
-/// closes the plan in every case, so that no session waits for good.
+/// The part of the publisher in a run: it publishes the steps up to the last one, or to one that is refused memory, and
+/// then closes the plan in every case, so that no session waits for good.
 pub fn play_publisher<R: Threads + Wait + Sync, G: Gate>(
     rt: &R,
     alloc: Global,

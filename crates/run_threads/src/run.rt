@@ -21,24 +21,26 @@ use step_view::Shares;
 pub enum Played {
     /// All steps were published, and all turns of all sessions answered. The registry's journal is whole.
     Whole { registry: Registry },
-    /// Memory was refused in the middle. The plan is closed, and no step is out; each session has all its turns done, was
-    /// stopped, or stands before a turn whose step was never published. The journal isn't whole.
+    /// Memory was refused in the middle. The plan is closed, and no step is out; each session has all its turns done,
+    /// was stopped, or stands before a turn whose step was never published. The journal isn't whole.
     NoMemory { registry: Registry },
 }
 
-/// Plays the job: a publisher makes and publishes the steps in order, and closes the plan; beside it each session takes its
-/// turns in order, waits for the step that a turn needs, pins the newest step, answers the boxes of the turn about that step,
-/// and gives the pin back. The registry that comes back has the history of all this as its journal, and the answers.
+/// Plays the job: a publisher makes and publishes the steps in order, and closes the plan; beside it each session takes
+/// its turns in order, waits for the step that a turn needs, pins the newest step, answers the boxes of the turn about
+/// that step, and gives the pin back. The registry that comes back has the history of all this as its journal, and the
+/// answers.
 ///
-/// There is a thread for each session, and the motions of the points use as many threads as there are processors. The call
-/// may wait: a session that waits for a step sleeps. It takes memory for the steps that are held (the newest, the one in
-/// making, and one for each session that has an older one out) and for the answers, which all stay in the registry.
+/// There is a thread for each session, and the motions of the points use as many threads as there are processors. The
+/// call may wait: a session that waits for a step sleeps. It takes memory for the steps that are held (the newest, the
+/// one in making, and one for each session that has an older one out) and for the answers, which all stay in the
+/// registry.
 ///
-/// `gate` is called by the publisher before it publishes step k, as `at(sessions, k)`, and by session s after it has pinned
-/// step k, as `at(s, k)`.
+/// `gate` is called by the publisher before it publishes step k, as `at(sessions, k)`, and by session s after it has
+/// pinned step k, as `at(s, k)`.
 ///
-/// `NoMemory` as the error of the call means that the run didn't begin: then the job is gone. Where memory is refused later,
-/// the publisher closes the plan, or the session gives its pin back without answers and stops, and the answer is
+/// `NoMemory` as the error of the call means that the run didn't begin: then the job is gone. Where memory is refused
+/// later, the publisher closes the plan, or the session gives its pin back without answers and stops, and the answer is
 /// `Played::NoMemory`.
 pub fn play_job<R: Threads + Wait + Sync, G: Gate>(
     rt: &R,
@@ -62,8 +64,8 @@ pub fn play_job<R: Threads + Wait + Sync, G: Gate>(
     }
 }
 
-/// The registry of a run of the job, with a whole journal. It plays the job as `play_job` does, and keeps nothing of a run
-/// that memory cut short. After `NoMemory` the job is gone.
+/// The registry of a run of the job, with a whole journal. It plays the job as `play_job` does, and keeps nothing of a
+/// run that memory cut short. After `NoMemory` the job is gone.
 pub fn run_job<R: Threads + Wait + Sync, G: Gate>(
     rt: &R,
     alloc: Global,

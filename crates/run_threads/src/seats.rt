@@ -60,12 +60,15 @@ pub fn play_seats<R: Threads + Wait + Sync, G: Gate>(
     ensures sessions { EachSession (λ s v. (v.session ≡ s) × HasEnded table.now.lock job.now v) result.1 }
     ensures count { length result.1 ≡ length sessions }
 {
-    // Where no thread can be made, the first closure runs after the second: then all steps are there before a session waits.
+    // Where no thread can be made, the first closure runs after the second: then all steps are there before a session
+    // waits.
     let (sessions, publisher) = join(
         rt,
         || -> SessionSeats
-            requires { EachSession (λ s v. (v.session ≡ s) × IsFresh table.now.lock job.now v) sessions × (length sessions ≡ length job.now.sessions) }
-            ensures { EachSession (λ s v. (v.session ≡ s) × HasEnded table.entry.now.lock job.entry.now v) result × (length result ≡ length sessions) }
+            requires { EachSession (λ s v. (v.session ≡ s) × IsFresh table.now.lock job.now v) sessions
+                × (length sessions ≡ length job.now.sessions) }
+            ensures { EachSession (λ s v. (v.session ≡ s) × HasEnded table.entry.now.lock job.entry.now v) result
+                × (length result ≡ length sessions) }
         {
             play_sessions(rt, alloc, table, job, gate, sessions.items_mut());
             sessions

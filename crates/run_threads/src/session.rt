@@ -41,7 +41,8 @@ fn ask_all<R: Wait, G: Gate>(
     Ok(())
 }
 
-/// The part of a session in a run: all its turns, up to one whose need the plan doesn't reach or that is refused memory.
+/// The part of a session in a run: all its turns, up to one whose need the plan doesn't reach or that is refused
+/// memory.
 pub fn play_session<R: Wait, G: Gate>(
     rt: &R,
     alloc: Global,

@@ -48,7 +48,8 @@ fn answer_areas(
 ) -> Result<AnswerList, NoMemory>
     requires reach { length pin.now.step.mesh.points ≤ length marks.old }
     requires few { first + length areas.now ≤ 100000 }
-    ensures answers { IfOk result (λ list. list ≡ answer_run pin.now.step.job pin.now.session pin.now.step.number first areas.now) }
+    ensures answers { IfOk result (λ list. list
+        ≡ answer_run pin.now.step.job pin.now.session pin.now.step.number first areas.now) }
 {
     let _job = pin.step().job();
     let mut list = Vec::new(alloc);
@@ -76,7 +77,8 @@ fn answer_turn(
     marks: &mut Option<Marks>,
 ) -> Result<AnswerList, NoMemory>
     requires few { first + length areas.now ≤ 100000 }
-    ensures answers { IfOk result (λ list. list ≡ answer_run pin.now.step.job pin.now.session pin.now.step.number first areas.now) }
+    ensures answers { IfOk result (λ list. list
+        ≡ answer_run pin.now.step.job pin.now.session pin.now.step.number first areas.now) }
 {
     let points = pin.step().points();
     let mut own = match marks.take() {

@@ -38,11 +38,13 @@ step_z side = side * side
 
 -- the first axis of the six pairs of axes: x y, x z, y x, y z, z x, z y
 abbrev pub first_step : ℕ → ℕ → ℕ
-first_step side pair = if (pair == 0) || (pair == 1) then step_x side else if (pair == 2) || (pair == 3) then step_y side else step_z side
+first_step side pair = if (pair == 0) || (pair == 1) then step_x side else if (pair == 2)
+    || (pair == 3) then step_y side else step_z side
 
 -- the second axis of the six pairs
 abbrev pub second_step : ℕ → ℕ → ℕ
-second_step side pair = if (pair == 2) || (pair == 4) then step_x side else if (pair == 0) || (pair == 5) then step_y side else step_z side
+second_step side pair = if (pair == 2) || (pair == 4) then step_x side else if (pair == 0)
+    || (pair == 5) then step_y side else step_z side
 
 -- the low corner of cube number c of a block of n cubes a side, as the number of a point
 abbrev pub low_corner : ℕ → ℕ → ℕ
@@ -50,7 +52,13 @@ low_corner n c = on_x n c * step_x (n + 1) + on_y n c * step_y (n + 1) + on_z n 
 
 -- from the low corner p by one step along each of two axes, and to the corner that is opposite to p
 abbrev pub path_cell : ℕ → ℕ → ℕ → Corners
-path_cell side pair p = (p, p + first_step side pair, p + first_step side pair + second_step side pair, p + step_x side + step_y side + step_z side)
+path_cell side pair p = (
+  p,
+  p + first_step side pair,
+  p + first_step side pair + second_step side pair,
+  p
+      + step_x side + step_y side + step_z side,
+)
 
 -- cell number t: the cubes come one after another, each with its six cells
 abbrev pub block_cell : ℕ → ℕ → Corners

@@ -10,7 +10,8 @@ place_of xs = (slice_index_or xs 0 (pos 0), slice_index_or xs 1 (pos 0), slice_i
 -- no number stands twice
 abbrev pub are_different : Corners → Bool
 are_different c =
-    not (c.0 == c.1) && (not (c.0 == c.2) && (not (c.0 == c.3) && (not (c.1 == c.2) && (not (c.1 == c.3) && not (c.2 == c.3)))))
+    not (c.0 == c.1) && (not (c.0 == c.2) && (not (c.0 == c.3)
+    && (not (c.1 == c.2) && (not (c.1 == c.3) && not (c.2 == c.3)))))
 
 -- a row of corners as a cell, which is absent where a number stands twice
 abbrev pub cell_of : List ℕ → Option Corners
@@ -25,7 +26,8 @@ listed places rows = record {
 
 -- each place is in range, and the mesh is one
 abbrev pub IsListed : List (List ℤ) → List (List ℕ) → Type 0
-IsListed places rows = All (λ at. IsPlace (place_of at)) places × IsMesh (listed places rows).points (listed places rows).cells
+IsListed places rows = All (λ at. IsPlace (place_of at)) places
+    × IsMesh (listed places rows).points (listed places rows).cells
 
 -- one cell, with a corner at the origin and the others 4 along each axis
 abbrev pub one_cell : MeshView

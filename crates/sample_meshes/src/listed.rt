@@ -35,16 +35,19 @@ fn point_of(at: &[i32; 3]) -> Option<Point>
     Point::new(x, y, z)
 }
 
-/// The box between two corners. None where a coordinate is out of range, or the low corner has one above that of the high one.
+/// The box between two corners. None where a coordinate is out of range, or the low corner has one above that of the
+/// high one.
 pub fn area_of(lo: &[i32; 3], hi: &[i32; 3]) -> Option<BoxQ>
-    ensures { SomeIff result (IsPlace (place_of lo.now) × IsPlace (place_of hi.now) × IsArea (place_of lo.now) (place_of hi.now)) (record { lo = place_of lo.now; hi = place_of hi.now }) }
+    ensures { SomeIff result (IsPlace (place_of lo.now) × IsPlace (place_of hi.now)
+        × IsArea (place_of lo.now) (place_of hi.now)) (record { lo = place_of lo.now; hi = place_of hi.now }) }
 {
     BoxQ::new(point_of(lo)?, point_of(hi)?)
 }
 
 // The points at these places, or None where one is out of range.
 fn points_of(alloc: Global, places: &[[i32; 3]]) -> Result<Option<PointList>, NoMemory>
-    ensures { IfOk result (λ found. SomeIff found (All (λ at. IsPlace (place_of at)) places.now) (map place_of places.now)) }
+    ensures { IfOk result (λ found. SomeIff found (All (λ at. IsPlace (place_of at)) places.now)
+        (map place_of places.now)) }
 {
     let mut points = Vec::with_capacity(alloc, places.len())?;
     for at in places {
@@ -76,8 +79,8 @@ fn cells_of(alloc: Global, rows: &[[u32; 4]]) -> Result<CellList, NoMemory>
 
 /// The mesh with a point at each of these places and a cell for each of these rows of corners, in their order.
 ///
-/// A row that has a number twice stands for an absent cell. None where a coordinate is out of range, a corner isn't the number
-/// of a point, or the mesh would be above its limits.
+/// A row that has a number twice stands for an absent cell. None where a coordinate is out of range, a corner isn't the
+/// number of a point, or the mesh would be above its limits.
 pub fn mesh_of(
     alloc: Global,
     places: &[[i32; 3]],

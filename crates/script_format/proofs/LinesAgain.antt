@@ -129,7 +129,8 @@ passes n at values c o k f =
     ∙ (skip (not (length values + 1 == words_of c)) (Err kinds.Word) (cond (is_one_too_many at c) (Err kinds.Limit) (row_of n c values)) k
     ∙ skip (is_one_too_many at c) (Err kinds.Limit) (row_of n c values) f)
 
--- what a line with this command shows: its first word is the command's, it has the right number of words, and the row is that of its values
+-- what a line with this command shows: its first word is the command's, it has the right number of words, and the row
+-- is that of its values
 pub record Says (version n : ℕ) (c : Command) (w : Word) (values : List Word) (r : Row) : Type 0 where
   pub plain : is_comment w ≡ false
   pub named : spelled (commands version) w ≡ Ok c

@@ -77,7 +77,8 @@ session_spelling items = line_spelling (codes "session" ∷ []) ++ flat_map item
 unfoldable pub script_spelling : ScriptView → List ℕ
 script_spelling script =
     line_spelling (codes "octopus" ∷ codes "script" ∷ number_word script.version ∷ [])
-    ++ (flat_map plan_spelling script.plans ++ (flat_map session_spelling script.sessions ++ line_spelling (codes "end" ∷ [])))
+    ++ (flat_map plan_spelling script.plans ++ (flat_map session_spelling script.sessions
+    ++ line_spelling (codes "end" ∷ [])))
 
 -- ---- scripts but for their line numbers
 

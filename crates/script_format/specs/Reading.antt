@@ -66,11 +66,14 @@ pub record Stands (before : List Row) (reading : Reading) : Type 0 where
 -- a line was taken: it has this row, or none, and the reader keeps it; or the line has this fault
 abbrev pub TakesLine : ℕ → ℕ → List Row → List ℕ → Result (Unit {0}) ScriptFault → Reading → Type 0
 TakesLine version n before line (Ok done) new =
-    (row : Option Row) × (row_of_line version n (standing before) (words line) ≡ Ok row) × Stands (before ++ option_to_list row) new
-TakesLine version n before line (Err e) new = IsFault e (on_line n (row_of_line version n (standing before) (words line)))
+    (row : Option Row) × (row_of_line version n (standing before) (words line) ≡ Ok row)
+    × Stands (before ++ option_to_list row) new
+TakesLine version n before line (Err e) new = IsFault e
+    (on_line n (row_of_line version n (standing before) (words line)))
 
 -- all lines but the first, of which the first `line` have been read with the header, and what is left of the text
-pub record IsReading (version : ℕ) (all : List (List ℕ)) (size line : ℕ) (rest : List ℕ) (reading : Reading) : Type 0 where
+pub record IsReading (version : ℕ) (all : List (List ℕ)) (size line : ℕ) (rest : List ℕ)
+    (reading : Reading) : Type 0 where
   pub before : List Row
   pub stands : Stands before reading
   pub goes_on : rows_of version 2 [] all ≡ rows_of version (line + 1) before (lines rest)

@@ -21,7 +21,8 @@ Reads value left (Err kind) read = read ≡ Err kind
 
 -- the words of the line are this one and those of the rest
 abbrev pub Begins : List ℕ → List ℕ → List ℕ → Type 0
-Begins line word rest = (ws : List Word) → pointwise bytes_eq (words line) (word ∷ ws) ≡ pointwise bytes_eq (words rest) ws
+Begins line word rest = (ws : List Word) → pointwise bytes_eq (words line) (word ∷ ws)
+    ≡ pointwise bytes_eq (words rest) ws
 
 abbrev pub IsVersion : ℕ → Type 0
 IsVersion version = (version ≡ 1) ⊎ (version ≡ 2)

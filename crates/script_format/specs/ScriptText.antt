@@ -1,4 +1,5 @@
--- What a script text says. Each line is a row of the table below, or has a first fault, and the rows before it decide which.
+-- What a script text says. Each line is a row of the table below, or has a first fault, and the rows before it decide
+-- which.
 use Rattle.std.specs.Prelude.{ℕ, ◌+◌, ◌-◌, ◌^◌, Bool, true, false, not, ◌||◌, ◌&&◌, ◌==◌, nat_lt, nat_le, if◌then◌else◌, List, [], ◌∷◌, ◌++◌, length, map, filter, Option, Some, None, Result, Ok, Err, ℤ, pos, neg_ℤ, unsigned_abs, codes}
 use Rattle.std.specs.List.{slice_split, list_any}
 use Rattle.std.specs.Option.{is_some, option_to_list}
@@ -82,12 +83,14 @@ spelling command.Free = codes "free"
 -- the commands of sessions, of which a hold and its free stand in version 2 alone
 abbrev pub session_commands : ℕ → List Command
 session_commands version =
-    command.Session ∷ command.Wait ∷ command.Box ∷ command.End ∷ (if version == 2 then command.Hold ∷ command.Free ∷ [] else [])
+    command.Session ∷ command.Wait ∷ command.Box ∷ command.End
+    ∷ (if version == 2 then command.Hold ∷ command.Free ∷ [] else [])
 
 -- all commands of a version
 abbrev pub commands : ℕ → List Command
 commands version =
-    command.Point ∷ command.Add ∷ command.Remove ∷ command.Split ∷ command.Stay ∷ command.Shift ∷ command.Pull ∷ command.Shake ∷ command.Relax
+    command.Point ∷ command.Add ∷ command.Remove ∷ command.Split ∷ command.Stay ∷ command.Shift ∷ command.Pull
+    ∷ command.Shake ∷ command.Relax
     ∷ command.Turn ∷ session_commands version
 
 -- the command that is spelled so
@@ -329,7 +332,8 @@ on_line n (Err kind) = Err (fault kind n)
 unfoldable pub rows_of : ℕ → ℕ → List Row → List (List ℕ) → Result (List Row) Fault
 rows_of version n before [] = Ok before
 rows_of version n before (line ∷ rest) =
-    on_line n (row_of_line version n (standing before) (words line)) >>= λ row. rows_of version (n + 1) (before ++ option_to_list row) rest
+    on_line n (row_of_line version n (standing before) (words line)) >>= λ row.
+    rows_of version (n + 1) (before ++ option_to_list row) rest
 
 -- the version that the first line gives
 unfoldable pub header : List Word → Result ℕ Fault

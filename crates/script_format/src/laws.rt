@@ -8,7 +8,8 @@ ghost use Rattle.script_format.specs.Printed.{AreWords, spaced, line_spelling, s
 /// Each text has an outcome, a script or its first fault, and only one.
 pub fn texts_have_one_outcome()
     ensures one { (text : List ℕ) → (outcome : Result ScriptView Fault) × (script_text text ≡ outcome) }
-    ensures only { (text : List ℕ) (a b : Result ScriptView Fault) → script_text text ≡ a → script_text text ≡ b → a ≡ b }
+    ensures only { (text : List ℕ) (a b : Result ScriptView Fault) → script_text text ≡ a → script_text text ≡ b
+        → a ≡ b }
 {}
 
 /// The script of a text is within the limits, its numbers are in range, and its holds are closed.
@@ -18,19 +19,23 @@ pub fn texts_have_valid_scripts()
 
 /// A line that is printed of words is the first line of the text that it begins, and has these words.
 pub fn printed_lines_are_read()
-    ensures line { (w : Word) (ws : List Word) (rest : List ℕ) → AreWords (w ∷ ws) → lines (line_spelling (w ∷ ws) ++ rest) ≡ (w ++ spaced ws) ∷ lines rest }
+    ensures line { (w : Word) (ws : List Word) (rest : List ℕ) → AreWords (w ∷ ws)
+        → lines (line_spelling (w ∷ ws) ++ rest) ≡ (w ++ spaced ws) ∷ lines rest }
     ensures words { (w : Word) (ws : List Word) → AreWords (w ∷ ws) → words (w ++ spaced ws) ≡ w ∷ ws }
 {}
 
 /// The text that is printed of a script is accepted, and is read as the same script but for the line numbers.
 pub fn printed_scripts_are_read()
-    ensures { (script : ScriptView) → IsScript script → (read : ScriptView) × (script_text (script_spelling script) ≡ Ok read) × (unlined read ≡ unlined script) }
+    ensures { (script : ScriptView) → IsScript script
+        → (read : ScriptView) × (script_text (script_spelling script) ≡ Ok read) × (unlined read ≡ unlined script) }
 {}
 
-/// Two scripts have the same text where they are the same but for the line numbers, and only there. So what is read of a
-/// printed text is printed as that text again.
+/// Two scripts have the same text where they are the same but for the line numbers, and only there. So what is read of
+/// a printed text is printed as that text again.
 pub fn printed_texts_tell_scripts_apart()
     ensures same { (a b : ScriptView) → unlined a ≡ unlined b → script_spelling a ≡ script_spelling b }
-    ensures only { (a b : ScriptView) → IsScript a → IsScript b → script_spelling a ≡ script_spelling b → unlined a ≡ unlined b }
-    ensures again { (script read : ScriptView) → IsScript script → script_text (script_spelling script) ≡ Ok read → script_spelling read ≡ script_spelling script }
+    ensures only { (a b : ScriptView) → IsScript a → IsScript b → script_spelling a ≡ script_spelling b
+        → unlined a ≡ unlined b }
+    ensures again { (script read : ScriptView) → IsScript script → script_text (script_spelling script) ≡ Ok read
+        → script_spelling read ≡ script_spelling script }
 {}

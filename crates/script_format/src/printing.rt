@@ -92,7 +92,8 @@ fn put_kernel(alloc: Global, out: &mut Vec<u8>, kernel: &Kernel) -> Result<(), N
 
 // The coordinates of a box: those of the low corner, and those of the high one.
 fn box_values(area: &BoxQ) -> [i64; 6]
-    ensures { result ≡ area.now.lo.0 ∷ area.now.lo.1 ∷ area.now.lo.2 ∷ area.now.hi.0 ∷ area.now.hi.1 ∷ area.now.hi.2 ∷ [] }
+    ensures { result ≡ area.now.lo.0 ∷ area.now.lo.1 ∷ area.now.lo.2 ∷ area.now.hi.0 ∷ area.now.hi.1 ∷ area.now.hi.2
+        ∷ [] }
 {
     let lo = area.lo();
     let hi = area.hi();
@@ -175,8 +176,8 @@ fn spell(alloc: Global, script: &Script) -> Result<Vec<u8>, NoMemory>
     Ok(text)
 }
 
-/// Appends the script's text: the first line, each plan's edits and its motion, each session with its items, and `end`, with
-/// single spaces, numbers in decimal and LF at each line's end. After an error `out` holds what it held.
+/// Appends the script's text: the first line, each plan's edits and its motion, each session with its items, and `end`,
+/// with single spaces, numbers in decimal and LF at each line's end. After an error `out` holds what it held.
 ///
 /// `read_script` accepts the text, and gives the same script but for the line numbers.
 ///
@@ -184,7 +185,8 @@ fn spell(alloc: Global, script: &Script) -> Result<Vec<u8>, NoMemory>
 pub fn print_script(alloc: Global, script: &Script, out: &mut Vec<u8>) -> Result<(), NoMemory>
     ensures ok { OnOk result (out.new.items ≡ out.old.items ++ script_spelling script.now) }
     ensures err { OnErr result (out.new.items ≡ out.old.items) }
-    ensures read_again { OnOk result ((read : ScriptView) × (script_text (script_spelling script.now) ≡ Ok read) × (unlined read ≡ unlined script.now)) }
+    ensures read_again { OnOk result ((read : ScriptView) × (script_text (script_spelling script.now) ≡ Ok read)
+        × (unlined read ≡ unlined script.now)) }
 {
     let text = spell(alloc, script)?;
     put_text(alloc, out, &text)

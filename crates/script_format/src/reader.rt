@@ -13,7 +13,8 @@ use std::alloc::Global;
 
 // What stands behind the first word of a line, where that is this word.
 fn behind_word<'a>(line: &'a [u8], word: &[u8]) -> Option<&'a [u8]>
-    ensures { MatchOption result ((ws : List Word) → pointwise bytes_eq (words line.now) (word.now ∷ ws) ≡ false) (λ rest. Begins line.now word.now rest.now) }
+    ensures { MatchOption result ((ws : List Word) → pointwise bytes_eq (words line.now) (word.now ∷ ws) ≡ false)
+        (λ rest. Begins line.now word.now rest.now) }
 {
     match next_word(line) {
         Some(cut) => {
@@ -84,9 +85,10 @@ fn read_rows(alloc: Global, version: u32, text: &[u8]) -> Result<Script, ScriptF
 
 /// The script that a text is, or its first fault.
 ///
-/// Lines end with LF or CR LF, words are separated by spaces and tabs, and comments begin with `#`. The first faulty line
-/// gives the fault, and on a line the first check that fails: the first word, the order, the number of words, the limits,
-/// the values from left to right, the corners of a box. It reads the text once and takes memory for the script alone.
+/// Lines end with LF or CR LF, words are separated by spaces and tabs, and comments begin with `#`. The first faulty
+/// line gives the fault, and on a line the first check that fails: the first word, the order, the number of words, the
+/// limits, the values from left to right, the corners of a box. It reads the text once and takes memory for the script
+/// alone.
 #[tactic(auto, unfolding(crate::specs::ScriptText::script_text))]
 pub fn read_script(alloc: Global, text: &[u8]) -> Result<Script, ScriptFault>
     requires { length text.now < 2 ^ 32 }

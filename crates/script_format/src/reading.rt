@@ -139,7 +139,8 @@ impl Reading {
     // Takes an edit.
     fn take_edit(&mut self, edit: LinedEdit) -> Result<(), ScriptFault>
         requires few { CountsAtMost 4294967294 self.old.standing }
-        ensures stands { (before : List Row) → Stands before self.old → OnOk result (Stands (before ++ Row.Edit edit ∷ []) self.new) }
+        ensures stands { (before : List Row) → Stands before self.old
+            → OnOk result (Stands (before ++ Row.Edit edit ∷ []) self.new) }
         ensures standing { OnOk result (self.new.standing ≡ with_row (Row.Edit edit) self.old.standing) }
         ensures err { IfErr result (λ e. e ≡ ScriptFault.NoMemory) }
     {
@@ -151,7 +152,8 @@ impl Reading {
     // Takes a motion, which ends a step.
     fn take_move(&mut self, alloc: Global, kernel: Kernel) -> Result<(), ScriptFault>
         requires few { CountsAtMost 4294967294 self.old.standing }
-        ensures stands { (before : List Row) → Stands before self.old → OnOk result (Stands (before ++ Row.Move kernel ∷ []) self.new) }
+        ensures stands { (before : List Row) → Stands before self.old
+            → OnOk result (Stands (before ++ Row.Move kernel ∷ []) self.new) }
         ensures standing { OnOk result (self.new.standing ≡ with_row (Row.Move kernel) self.old.standing) }
         ensures err { IfErr result (λ e. e ≡ ScriptFault.NoMemory) }
     {
@@ -164,7 +166,8 @@ impl Reading {
     // Begins a session.
     fn take_session(&mut self, alloc: Global) -> Result<(), ScriptFault>
         requires few { CountsAtMost 4294967294 self.old.standing }
-        ensures stands { (before : List Row) → Stands before self.old → OnOk result (Stands (before ++ Row.Session ∷ []) self.new) }
+        ensures stands { (before : List Row) → Stands before self.old
+            → OnOk result (Stands (before ++ Row.Session ∷ []) self.new) }
         ensures standing { OnOk result (self.new.standing ≡ with_row (Row.Session) self.old.standing) }
         ensures err { IfErr result (λ e. e ≡ ScriptFault.NoMemory) }
     {
@@ -177,7 +180,8 @@ impl Reading {
     // Takes an item of the last session.
     fn take_item(&mut self, item: Item) -> Result<(), ScriptFault>
         requires few { CountsAtMost 4294967294 self.old.standing }
-        ensures stands { (before : List Row) → Stands before self.old → OnOk result (Stands (before ++ Row.Does item ∷ []) self.new) }
+        ensures stands { (before : List Row) → Stands before self.old
+            → OnOk result (Stands (before ++ Row.Does item ∷ []) self.new) }
         ensures standing { OnOk result (self.new.standing ≡ with_row (Row.Does item) self.old.standing) }
         ensures err { IfErr result (λ e. e ≡ ScriptFault.NoMemory) }
     {
@@ -197,7 +201,8 @@ impl Reading {
     // Takes one more row.
     fn take_row(&mut self, alloc: Global, row: Row) -> Result<(), ScriptFault>
         requires few { CountsAtMost 4294967294 self.old.standing }
-        ensures stands { (before : List Row) → Stands before self.old → OnOk result (Stands (before ++ row ∷ []) self.new) }
+        ensures stands { (before : List Row) → Stands before self.old
+            → OnOk result (Stands (before ++ row ∷ []) self.new) }
         ensures standing { OnOk result (self.new.standing ≡ with_row (row) self.old.standing) }
         ensures err { IfErr result (λ e. e ≡ ScriptFault.NoMemory) }
     {
@@ -222,8 +227,10 @@ impl Reading {
         text: &[u8],
     ) -> Result<(), ScriptFault>
         requires few { CountsAtMost 4294967294 self.old.standing }
-        ensures takes { (before : List Row) → Stands before self.old → TakesLine version line before text.now result self.new }
-        ensures few { (n : ℕ) → CountsAtMost n self.old.standing → OnOk result (CountsAtMost (n + 1) self.new.standing) }
+        ensures takes { (before : List Row) → Stands before self.old
+            → TakesLine version line before text.now result self.new }
+        ensures few { (n : ℕ) → CountsAtMost n self.old.standing
+            → OnOk result (CountsAtMost (n + 1) self.new.standing) }
     {
         match row_of_line(version, line, &self.standing, text) {
             Ok(None) => Ok(()),

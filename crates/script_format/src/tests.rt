@@ -156,8 +156,8 @@ fn texts_that_are_read(rt: HostRuntime) {
     }
 }
 
-// Checks the faults of all prefixes. Each row is for the lengths from that of the row before on to its own, and no prefix
-// that is longer has a fault.
+// Checks the faults of all prefixes. Each row is for the lengths from that of the row before on to its own, and no
+// prefix that is longer has a fault.
 fn check_prefixes(rt: &impl Abort, alloc: Global, text: &str, table: &[(usize, ScriptKind, u32)]) {
     let text = text.as_bytes();
     for len in 0..text.len() + 1 {

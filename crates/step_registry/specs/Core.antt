@@ -55,7 +55,9 @@ effect st Close = record { newest = st.newest; closed = true; sessions = st.sess
 abbrev pub CanHappen : JobView → State → Event → Type 0
 CanHappen job st (Publish k) = (k ≡ st.newest + 1) × (k ≤ steps job) × (st.closed ≡ false)
 CanHappen job st (Pin s k) =
-    (s < length job.sessions) × ((session_of st s).out ≡ None) × ((session_of st s).is_stopped ≡ false) × ((session_of st s).done < length (turns_of job s)) × ((turn_at job s (session_of st s).done).need ≤ st.newest) × (k ≡ st.newest)
+    (s < length job.sessions) × ((session_of st s).out ≡ None) × ((session_of st s).is_stopped ≡ false)
+    × ((session_of st s).done < length (turns_of job s)) × ((turn_at job s (session_of st s).done).need ≤ st.newest)
+    × (k ≡ st.newest)
 CanHappen job st (Unpin s k answered) = (s < length job.sessions) × ((session_of st s).out ≡ Some k)
 CanHappen job st Close = st.closed ≡ false
 
@@ -123,7 +125,13 @@ abbrev pub answer_of : JobView → ℕ → Area → List ℕ
 answer_of job k area = query.answer (step_at job k) area
 
 abbrev pub answer_to : JobView → ℕ → ℕ → ℕ → Area → Answer
-answer_to job s q k area = record { session = s; query = q; step = k; route = route_of job k area; vertices = answer_of job k area }
+answer_to job s q k area = record {
+  session = s;
+  query = q;
+  step = k;
+  route = route_of job k area;
+  vertices = answer_of job k area;
+}
 
 abbrev pub answer_run : JobView → ℕ → ℕ → ℕ → List Area → List Answer
 answer_run job s k q [] = []
@@ -148,7 +156,8 @@ answers_of job h = answers_from job (first job) h
 
 -- the first sessions have all turns done, and nothing out
 abbrev pub AllDone : JobView → List SessionState → ℕ → Type 0
-AllDone job sessions n = (s : ℕ) → s < n → ((slice_index_or sessions s fresh).done ≡ length (turns_of job s)) × ((slice_index_or sessions s fresh).out ≡ None)
+AllDone job sessions n = (s : ℕ) → s < n → ((slice_index_or sessions s fresh).done ≡ length (turns_of job s))
+    × ((slice_index_or sessions s fresh).out ≡ None)
 
 -- whole: everything was published, asked and given back
 pub record IsWhole (job : JobView) (h : List Event) : Type 0 where

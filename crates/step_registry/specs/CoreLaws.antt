@@ -22,18 +22,22 @@ pub legal_part : (job : JobView) (st : State) (g h : List Event) → LegalFrom j
 legal_part job st [] h l = tt
 legal_part job st (e ∷ es) h l = (l.0, legal_part job (effect st e) es h l.1)
 
-pub legal_rest : (job : JobView) (st : State) (g h : List Event) → LegalFrom job st (g ++ h) → LegalFrom job (after_from st g) h
+pub legal_rest : (job : JobView) (st : State) (g h : List Event) → LegalFrom job st (g ++ h)
+    → LegalFrom job (after_from st g) h
 legal_rest job st [] h l = l
 legal_rest job st (e ∷ es) h l = legal_rest job (effect st e) es h l.1
 
-pub legal-append : (job : JobView) (st : State) (g h : List Event) → LegalFrom job st g → LegalFrom job (after_from st g) h → LegalFrom job st (g ++ h)
+pub legal-append : (job : JobView) (st : State) (g h : List Event) → LegalFrom job st g
+    → LegalFrom job (after_from st g) h → LegalFrom job st (g ++ h)
 legal-append job st [] h l m = m
 legal-append job st (e ∷ es) h l m = (l.0, legal-append job (effect st e) es h l.1 m)
 
-pub legal_more : (job : JobView) (h : List Event) (e : Event) → IsLegal job h → CanHappen job (after job h) e → IsLegal job (h ++ e ∷ [])
+pub legal_more : (job : JobView) (h : List Event) (e : Event) → IsLegal job h → CanHappen job (after job h) e
+    → IsLegal job (h ++ e ∷ [])
 legal_more job h e l can = legal-append job (first job) h (e ∷ []) l (can, tt)
 
-pub answers-append : (job : JobView) (st : State) (g h : List Event) → answers_from job st (g ++ h) ≡ answers_from job st g ++ answers_from job (after_from st g) h
+pub answers-append : (job : JobView) (st : State) (g h : List Event)
+    → answers_from job st (g ++ h) ≡ answers_from job st g ++ answers_from job (after_from st g) h
 answers-append job st [] h = refl
 answers-append job st (e ∷ es) h = ap (λ l. answers_by job st e ++ l) (answers-append job (effect st e) es h) ∙ sym (append_assoc (answers_by job st e) (answers_from job (effect st e) es) (answers_from job (after_from (effect st e) es) h))
 
@@ -77,21 +81,24 @@ first-sound job = record {
 }
 
 -- a list with one element replaced: what holds of each
-pub each_set : (P : ℕ → SessionState → Type 0) (xs : List SessionState) (s : ℕ) (y : SessionState) → s < length xs → ((i : ℕ) → P i (slice_index_or xs i fresh)) → P s y → (i : ℕ) → P i (slice_index_or (slice_set xs s y) i fresh)
+pub each_set : (P : ℕ → SessionState → Type 0) (xs : List SessionState) (s : ℕ) (y : SessionState) → s < length xs
+    → ((i : ℕ) → P i (slice_index_or xs i fresh)) → P s y → (i : ℕ) → P i (slice_index_or (slice_set xs s y) i fresh)
 each_set P [] s y lt each here i = absurd (omega arith)
 each_set P (x ∷ xs) zero y lt each here zero = here
 each_set P (x ∷ xs) zero y lt each here (suc i) = each (suc i)
 each_set P (x ∷ xs) (suc s) y lt each here zero = each zero
 each_set P (x ∷ xs) (suc s) y lt each here (suc i) = each_set (λ j z. P (suc j) z) xs s y (omega arith) (λ j. each (suc j)) here i
 
-set-sound : (job : JobView) (st : State) (s : ℕ) (me : SessionState) → IsSound job st → s < length job.sessions → IsFine (turns_of job s) st.newest me → IsSound job (with_session st s me)
+set-sound : (job : JobView) (st : State) (s : ℕ) (me : SessionState) → IsSound job st → s < length job.sessions
+    → IsFine (turns_of job s) st.newest me → IsSound job (with_session st s me)
 set-sound job st s me sound lt fine = record {
   even = length-set st.sessions s me ∙ sound.even;
   newest_fits = sound.newest_fits;
   each = each_set (λ i z. IsFine (turns_of job i) st.newest z) st.sessions s me (subst (λ n. s < n) (sym sound.even) lt) sound.each fine;
 }
 
-pinned-fine : (turns : List SessionTurn) (newest : ℕ) (me : SessionState) → IsFine turns newest me → me.is_stopped ≡ false → me.done < length turns → IsFine turns newest (pinned newest me)
+pinned-fine : (turns : List SessionTurn) (newest : ℕ) (me : SessionState) → IsFine turns newest me
+    → me.is_stopped ≡ false → me.done < length turns → IsFine turns newest (pinned newest me)
 pinned-fine turns newest me fine going left = record {
   done_fits = fine.done_fits;
   out_below = λ k e. let same : newest ≡ k = cc in omega arith;
@@ -99,7 +106,8 @@ pinned-fine turns newest me fine going left = record {
   stopped_fits = fine.stopped_fits;
 }
 
-unpinned-fine : (turns : List SessionTurn) (newest k : ℕ) (answered : Bool) (me : SessionState) → IsFine turns newest me → me.out ≡ Some k → IsFine turns newest (unpinned answered me)
+unpinned-fine : (turns : List SessionTurn) (newest k : ℕ) (answered : Bool) (me : SessionState)
+    → IsFine turns newest me → me.out ≡ Some k → IsFine turns newest (unpinned answered me)
 unpinned-fine turns newest k true me fine e = let goes : (me.done < length turns) × (me.is_stopped ≡ false) = fine.out_goes k e in record {
   done_fits = omega (arith, goes.0);
   out_below = λ j n. cc;
@@ -113,7 +121,8 @@ unpinned-fine turns newest k false me fine e = let goes : (me.done < length turn
   stopped_fits = λ stopped. goes.0;
 }
 
-raised-fine : (turns : List SessionTurn) (newest up : ℕ) (me : SessionState) → newest ≤ up → IsFine turns newest me → IsFine turns up me
+raised-fine : (turns : List SessionTurn) (newest up : ℕ) (me : SessionState) → newest ≤ up → IsFine turns newest me
+    → IsFine turns up me
 raised-fine turns newest up me le fine = record {
   done_fits = fine.done_fits;
   out_below = λ k e. let b = fine.out_below k e in omega arith;
@@ -122,17 +131,20 @@ raised-fine turns newest up me le fine = record {
 }
 
 -- each event keeps a state sound
-pub step-sound : (job : JobView) (st : State) (e : Event) → IsSound job st → CanHappen job st e → IsSound job (effect st e)
+pub step-sound : (job : JobView) (st : State) (e : Event) → IsSound job st → CanHappen job st e
+    → IsSound job (effect st e)
 step-sound job st (Publish k) sound can = record {
   even = sound.even;
   newest_fits = can.1;
   each = λ s. raised-fine (turns_of job s) st.newest k (session_of st s) (let up = can.0 in omega arith) (sound.each s);
 }
 step-sound job st (Pin s k) sound can = set-sound job st s (pinned k (session_of st s)) sound can.0 (subst (λ j. IsFine (turns_of job s) st.newest (pinned j (session_of st s))) (sym can.5) (pinned-fine (turns_of job s) st.newest (session_of st s) (sound.each s) can.2 can.3))
-step-sound job st (Unpin s k a) sound can = set-sound job st s (unpinned a (session_of st s)) sound can.0 (unpinned-fine (turns_of job s) st.newest k a (session_of st s) (sound.each s) can.1)
+step-sound job st (Unpin s k a) sound can = set-sound job st s (unpinned a (session_of st s)) sound can.0
+    (unpinned-fine (turns_of job s) st.newest k a (session_of st s) (sound.each s) can.1)
 step-sound job st Close sound can = record { even = sound.even; newest_fits = sound.newest_fits; each = sound.each }
 
-pub sound_from : (job : JobView) (st : State) (h : List Event) → IsSound job st → LegalFrom job st h → IsSound job (after_from st h)
+pub sound_from : (job : JobView) (st : State) (h : List Event) → IsSound job st → LegalFrom job st h
+    → IsSound job (after_from st h)
 sound_from job st [] sound l = sound
 sound_from job st (e ∷ es) sound l = sound_from job (effect st e) es (step-sound job st e sound l.0) l.1
 
@@ -158,17 +170,23 @@ one_if false = 0
 abbrev pub spent : State → ℕ
 spent st = st.newest + one_if st.closed + sum_by weight st.sessions
 
-set-weights : (st : State) (s : ℕ) (me : SessionState) → s < length st.sessions → weight me ≡ weight (session_of st s) + 1 → sum_by weight (slice_set st.sessions s me) ≡ sum_by weight st.sessions + 1
+set-weights : (st : State) (s : ℕ) (me : SessionState) → s < length st.sessions
+    → weight me ≡ weight (session_of st s) + 1 → sum_by weight (slice_set st.sessions s me)
+    ≡ sum_by weight st.sessions + 1
 set-weights st s me lt e = let moved = sum_by-set weight st.sessions s me fresh lt in omega arith
 
-pinned-weight : (done k : ℕ) (o : Option ℕ) (stopped : Bool) → o ≡ None → 2 * done + 1 + stop_weight stopped ≡ (2 * done + out_weight o + stop_weight stopped) + 1
+pinned-weight : (done k : ℕ) (o : Option ℕ) (stopped : Bool) → o ≡ None
+    → 2 * done + 1 + stop_weight stopped ≡ (2 * done + out_weight o + stop_weight stopped) + 1
 pinned-weight done k o stopped e = let z : out_weight o ≡ 0 = ap out_weight e in omega arith
 
-unpinned-weight : (done k : ℕ) (o : Option ℕ) (stopped answered : Bool) → o ≡ Some k → stopped ≡ false → 2 * cond answered (done + 1) done + 0 + stop_weight (cond answered stopped true) ≡ (2 * done + out_weight o + stop_weight stopped) + 1
+unpinned-weight : (done k : ℕ) (o : Option ℕ) (stopped answered : Bool) → o ≡ Some k → stopped ≡ false
+    → 2 * cond answered (done + 1) done + 0 + stop_weight (cond answered stopped true)
+    ≡ (2 * done + out_weight o + stop_weight stopped) + 1
 unpinned-weight done k o stopped true e going = let z : out_weight o ≡ 1 = ap out_weight e in let y : stop_weight stopped ≡ 0 = ap stop_weight going in omega arith
 unpinned-weight done k o stopped false e going = let z : out_weight o ≡ 1 = ap out_weight e in let y : stop_weight stopped ≡ 0 = ap stop_weight going in omega arith
 
-step-spent : (job : JobView) (st : State) (e : Event) → IsSound job st → CanHappen job st e → spent (effect st e) ≡ spent st + 1
+step-spent : (job : JobView) (st : State) (e : Event) → IsSound job st → CanHappen job st e
+    → spent (effect st e) ≡ spent st + 1
 step-spent job st (Publish k) sound can = let up : k ≡ st.newest + 1 = can.0 in omega arith
 step-spent job st (Pin s k) sound can =
     let me = session_of st s in let w : weight (pinned k me) ≡ weight me + 1 = pinned-weight me.done k me.out me.is_stopped can.1 in
@@ -181,19 +199,24 @@ step-spent job st (Unpin s k a) sound can =
     let more = set-weights st s (unpinned a me) lt w in omega arith
 step-spent job st Close sound can = let z : one_if st.closed ≡ 0 = ap one_if can in omega arith
 
-spent_from : (job : JobView) (st : State) (h : List Event) → IsSound job st → LegalFrom job st h → spent (after_from st h) ≡ spent st + length h
+spent_from : (job : JobView) (st : State) (h : List Event) → IsSound job st → LegalFrom job st h
+    → spent (after_from st h) ≡ spent st + length h
 spent_from job st [] sound l = omega arith
 spent_from job st (e ∷ es) sound l =
     let step = step-spent job st e sound l.0 in
     let more = spent_from job (effect st e) es (step-sound job st e sound l.0) l.1 in omega arith
 
-weight-fits : (n done : ℕ) (o : Option ℕ) (stopped : Bool) → done ≤ n → ((k : ℕ) → o ≡ Some k → (done < n) × (stopped ≡ false)) → (stopped ≡ true → done < n) → 2 * done + out_weight o + stop_weight stopped ≤ 2 * n
+weight-fits : (n done : ℕ) (o : Option ℕ) (stopped : Bool) → done ≤ n
+    → ((k : ℕ) → o ≡ Some k → (done < n) × (stopped ≡ false)) → (stopped ≡ true → done < n)
+    → 2 * done + out_weight o + stop_weight stopped ≤ 2 * n
 weight-fits n done None true le goes low = let lt = low refl in omega arith
 weight-fits n done None false le goes low = omega arith
 weight-fits n done (Some k) true le goes low = absurd (true≢false ((goes k refl).1))
 weight-fits n done (Some k) false le goes low = let lt = (goes k refl).0 in omega arith
 
-pub sum-le : (f : SessionState → ℕ) (g : List SessionTurn → ℕ) (ws : List SessionState) (ts : List (List SessionTurn)) → length ws ≡ length ts → ((i : ℕ) → f (slice_index_or ws i fresh) ≤ g (slice_index_or ts i [])) → sum_by f ws ≤ sum_by g ts
+pub sum-le : (f : SessionState → ℕ) (g : List SessionTurn → ℕ) (ws : List SessionState)
+    (ts : List (List SessionTurn)) → length ws ≡ length ts
+    → ((i : ℕ) → f (slice_index_or ws i fresh) ≤ g (slice_index_or ts i [])) → sum_by f ws ≤ sum_by g ts
 sum-le f g [] [] e each = omega arith
 sum-le f g [] (t ∷ ts) e each = absurd (omega arith)
 sum-le f g (w ∷ ws) [] e each = absurd (omega arith)
@@ -230,13 +253,17 @@ areas_done [] ts = 0
 areas_done (w ∷ ws) [] = 0
 areas_done (w ∷ ws) (t ∷ ts) = first_query t w.done + areas_done ws ts
 
-areas_done-set : (ws : List SessionState) (ts : List (List SessionTurn)) (s : ℕ) (me : SessionState) → s < length ws → length ws ≡ length ts → areas_done (slice_set ws s me) ts + first_query (slice_index_or ts s []) (slice_index_or ws s fresh).done ≡ areas_done ws ts + first_query (slice_index_or ts s []) me.done
+areas_done-set : (ws : List SessionState) (ts : List (List SessionTurn)) (s : ℕ) (me : SessionState) → s < length ws
+    → length ws ≡ length ts → areas_done (slice_set ws s me) ts
+    + first_query (slice_index_or ts s []) (slice_index_or ws s fresh).done
+    ≡ areas_done ws ts + first_query (slice_index_or ts s []) me.done
 areas_done-set [] ts s me lt e = absurd (omega arith)
 areas_done-set (w ∷ ws) [] s me lt e = absurd (omega arith)
 areas_done-set (w ∷ ws) (t ∷ ts) zero me lt e = omega arith
 areas_done-set (w ∷ ws) (t ∷ ts) (suc s) me lt e = let more = areas_done-set ws ts s me (omega arith) (omega arith) in omega arith
 
-areas_done-le : (ws : List SessionState) (ts : List (List SessionTurn)) → areas_done ws ts ≤ sum_by (λ turns. sum_by (λ t. length t.areas) turns) ts
+areas_done-le : (ws : List SessionState) (ts : List (List SessionTurn))
+    → areas_done ws ts ≤ sum_by (λ turns. sum_by (λ t. length t.areas) turns) ts
 areas_done-le [] ts = omega arith
 areas_done-le (w ∷ ws) [] = omega arith
 areas_done-le (w ∷ ws) (t ∷ ts) = omega (arith, areas_done-le ws ts, sum_by-take-le (λ x. length x.areas) t w.done, sum_by-cons (λ turns. sum_by (λ x. length x.areas) turns) t ts)
@@ -246,11 +273,14 @@ areas_done-first zero ts = refl
 areas_done-first (suc n) [] = refl
 areas_done-first (suc n) (t ∷ ts) = let more = areas_done-first n ts in omega arith
 
-pub length-answer_run : (job : JobView) (s k q : ℕ) (areas : List Area) → length (answer_run job s k q areas) ≡ length areas
+pub length-answer_run : (job : JobView) (s k q : ℕ) (areas : List Area)
+    → length (answer_run job s k q areas) ≡ length areas
 length-answer_run job s k q [] = refl
 length-answer_run job s k q (a ∷ areas) = ap suc (length-answer_run job s k (q + 1) areas)
 
-step-areas : (job : JobView) (st : State) (e : Event) → IsSound job st → CanHappen job st e → areas_done (effect st e).sessions job.sessions ≡ areas_done st.sessions job.sessions + length (answers_by job st e)
+step-areas : (job : JobView) (st : State) (e : Event) → IsSound job st → CanHappen job st e
+    → areas_done (effect st e).sessions job.sessions
+    ≡ areas_done st.sessions job.sessions + length (answers_by job st e)
 step-areas job st (Publish k) sound can = omega arith
 step-areas job st (Pin s k) sound can =
     let lt : s < length st.sessions = subst (λ n. s < n) (sym sound.even) can.0 in
@@ -266,7 +296,9 @@ step-areas job st (Unpin s k false) sound can =
     let moved = areas_done-set st.sessions job.sessions s (unpinned false (session_of st s)) lt sound.even in omega arith
 step-areas job st Close sound can = omega arith
 
-areas_from : (job : JobView) (st : State) (h : List Event) → IsSound job st → LegalFrom job st h → areas_done (after_from st h).sessions job.sessions ≡ areas_done st.sessions job.sessions + length (answers_from job st h)
+areas_from : (job : JobView) (st : State) (h : List Event) → IsSound job st → LegalFrom job st h
+    → areas_done (after_from st h).sessions job.sessions
+    ≡ areas_done st.sessions job.sessions + length (answers_from job st h)
 areas_from job st [] sound l = omega arith
 areas_from job st (e ∷ es) sound l =
     let step = step-areas job st e sound l.0 in

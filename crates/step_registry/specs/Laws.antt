@@ -13,7 +13,8 @@ pub record RegistryView : Type 0 where
   pub journal : List Event
 
 -- All that a registry keeps is told by its job and its journal.
-pub record IsKept (job : JobView) (journal : List Event) (state : State) (latest : SharesView) (older : List SharesView) (answers : List Answer) (events_room answers_room rows_room : ℕ) : Type 0 where
+pub record IsKept (job : JobView) (journal : List Event) (state : State) (latest : SharesView)
+    (older : List SharesView) (answers : List Answer) (events_room answers_room rows_room : ℕ) : Type 0 where
   pub legal : IsLegal job journal
   pub state_is : state ≡ after job journal
   pub latest_is : latest ≡ row_of job state.sessions state.newest

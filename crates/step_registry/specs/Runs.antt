@@ -30,14 +30,17 @@ no_area = let origin : Place = (pos 0, pos 0, pos 0) in record { lo = origin; hi
 -- box q of these turns, one turn after the other
 abbrev pub area_at : List SessionTurn → ℕ → Area
 area_at [] q = no_area
-area_at (t ∷ ts) q = cond (nat_lt q (length t.areas)) (slice_index_or t.areas q no_area) (area_at ts (q - length t.areas))
+area_at (t ∷ ts) q = cond (nat_lt q (length t.areas)) (slice_index_or t.areas q no_area)
+    (area_at ts (q - length t.areas))
 
 -- the answer of box q of session s at step k
 abbrev pub answer_at : JobView → ℕ → ℕ → ℕ → Answer
 answer_at job s q k = answer_to job s q k (area_at (turns_of job s) q)
 
 -- the boxes of one turn among all
-pub turn_area : (turns : List SessionTurn) (t i : ℕ) → t < length turns → i < length (slice_index_or turns t no_turn).areas → area_at turns (first_query turns t + i) ≡ slice_index_or (slice_index_or turns t no_turn).areas i no_area
+pub turn_area : (turns : List SessionTurn) (t i : ℕ) → t < length turns
+    → i < length (slice_index_or turns t no_turn).areas
+    → area_at turns (first_query turns t + i) ≡ slice_index_or (slice_index_or turns t no_turn).areas i no_area
 turn_area [] t i lt li = absurd (omega arith)
 turn_area (x ∷ xs) zero i lt li = let z : 0 + i ≡ i = omega arith in ap (area_at (x ∷ xs)) z ∙ ap (λ b. cond b (slice_index_or x.areas i no_area) (area_at xs (i - length x.areas))) (lt-ltb i (length x.areas) li)
 turn_area (x ∷ xs) (suc t) i lt li =
@@ -46,7 +49,9 @@ turn_area (x ∷ xs) (suc t) i lt li =
     ap (λ b. cond b (slice_index_or x.areas q no_area) (area_at xs (q - length x.areas))) (le-ltb q (length x.areas) past) ∙ (ap (area_at xs) rest ∙ turn_area xs t i (omega arith) li)
 
 -- one answer more of a turn
-pub run-more : (job : JobView) (s k q i : ℕ) (areas : List Area) → i < length areas → answer_run job s k q (take (i + 1) areas) ≡ answer_run job s k q (take i areas) ++ answer_to job s (q + i) k (slice_index_or areas i no_area) ∷ []
+pub run-more : (job : JobView) (s k q i : ℕ) (areas : List Area) → i < length areas
+    → answer_run job s k q (take (i + 1) areas) ≡ answer_run job s k q (take i areas)
+    ++ answer_to job s (q + i) k (slice_index_or areas i no_area) ∷ []
 run-more job s k q i [] lt = absurd (omega arith)
 run-more job s k q zero (x ∷ xs) lt = let z : q + 0 ≡ q = omega arith in ap (λ j. answer_to job s j k x ∷ []) (sym z)
 run-more job s k q (suc i) (x ∷ xs) lt =
@@ -54,7 +59,8 @@ run-more job s k q (suc i) (x ∷ xs) lt =
     ap (λ n. answer_run job s k q (take n (x ∷ xs))) e ∙ ap (λ l. answer_to job s q k x ∷ l) (run-more job s k (q + 1) i xs (omega arith) ∙ ap (λ j. answer_run job s k (q + 1) (take i xs) ++ answer_to job s j k (slice_index_or xs i no_area) ∷ []) z)
 
 -- a turn within bounds, whatever stands past them
-pub turn-any : (xs : List SessionTurn) (i : ℕ) (d e : SessionTurn) → i < length xs → slice_index_or xs i d ≡ slice_index_or xs i e
+pub turn-any : (xs : List SessionTurn) (i : ℕ) (d e : SessionTurn) → i < length xs
+    → slice_index_or xs i d ≡ slice_index_or xs i e
 turn-any [] i d e lt = absurd (omega arith)
 turn-any (x ∷ xs) zero d e lt = refl
 turn-any (x ∷ xs) (suc i) d e lt = turn-any xs i d e (omega arith)
@@ -76,7 +82,8 @@ pins_of job st = pins_from job 0 st.sessions
 
 -- the pin is of the job, and its session has its step out
 abbrev pub IsOut : JobView → State → PinView → Type 0
-IsOut job st pin = (pin.step.job ≡ job) × (pin.session < length job.sessions) × ((session_of st pin.session).out ≡ Some pin.step.number)
+IsOut job st pin = (pin.step.job ≡ job) × (pin.session < length job.sessions)
+    × ((session_of st pin.session).out ≡ Some pin.step.number)
 
 -- each pin is of the job and its session has its step out, and no two pins are of one session
 pub record CanGiveUp (job : JobView) (st : State) (pins : List PinView) : Type 0 where
@@ -89,9 +96,10 @@ give_event pin = Unpin pin.session pin.step.number false
 
 -- ---- how a run over a list of events ends
 
--- All: the journal is the events. NotEnabled: it is those before the place, and the event at the place may not happen then. NoMemory: it is
--- those before the place.
+-- All: the journal is the events. NotEnabled: it is those before the place, and the event at the place may not happen
+-- then. NoMemory: it is those before the place.
 abbrev pub EndsAs : JobView → List Event → List Event → CoreStop → Type 0
 EndsAs job events journal AllOf = journal ≡ events
-EndsAs job events journal (NotEnabled place) = (place < length events) × (journal ≡ take place events) × (CanHappen job (after job journal) (slice_index_or events place Close) → ⊥)
+EndsAs job events journal (NotEnabled place) = (place < length events) × (journal ≡ take place events)
+    × (CanHappen job (after job journal) (slice_index_or events place Close) → ⊥)
 EndsAs job events journal (NoMemory place) = (place ≤ length events) × (journal ≡ take place events)

@@ -20,8 +20,8 @@ use std::alloc::Global;
 use step_view::Shares;
 
 impl Registry {
-    /// Takes each pin back unanswered, in the order of the pins, and drops the steps that are then held by nobody. It takes no
-    /// memory.
+    /// Takes each pin back unanswered, in the order of the pins, and drops the steps that are then held by nobody. It
+    /// takes no memory.
     pub fn give_up(&mut self, pins: Pins)
         requires { CanGiveUp self.old.job (after self.old.job self.old.journal) pins }
         ensures job { self.new.job ≡ self.old.job }
@@ -81,7 +81,8 @@ fn answer_turn<W: Work>(
     requires session { pin.now.session < length (W.job work.old).sessions }
     requires turn { turn < length (turns_of (W.job work.old) pin.now.session) }
     requires first { first ≡ first_query (turns_of (W.job work.old) pin.now.session) turn }
-    ensures answers { IfOk result (λ list. list ≡ turn_answers (W.job work.old) pin.now.session turn pin.now.step.number) }
+    ensures answers { IfOk result (λ list. list ≡ turn_answers
+        (W.job work.old) pin.now.session turn pin.now.step.number) }
     ensures same { W.job work.new ≡ W.job work.old }
     ensures stays { W.next work.new ≡ W.next work.old }
 {
@@ -100,7 +101,8 @@ fn drive_publish<W: Work>(
     work: &mut W,
 ) -> Result<(), NoMemory>
     requires job { W.job work.old ≡ registry.old.job }
-    requires can { CanHappen registry.old.job (after registry.old.job registry.old.journal) (Publish (W.next work.old)) }
+    requires can { CanHappen registry.old.job (after registry.old.job registry.old.journal)
+        (Publish (W.next work.old)) }
     ensures job { registry.new.job ≡ registry.old.job }
     ensures done { OnOk result (registry.new.journal ≡ registry.old.journal ++ Publish (W.next work.old) ∷ []) }
     ensures refused { OnErr result (registry.new ≡ registry.old) }
@@ -120,8 +122,12 @@ fn ask<W: Work>(
     turn: u32,
     answered: bool,
 ) -> Result<Option<AnswerList>, NoMemory>
-    requires full { (pin : PinView) × (slot.now.pin ≡ Some pin) × (pin.step.job ≡ W.job work.old) × (pin.session < length (W.job work.old).sessions) × (turn < length (turns_of (W.job work.old) pin.session)) × (slot.now.asked ≡ first_query (turns_of (W.job work.old) pin.session) turn) }
-    ensures answers { (pin : PinView) → slot.now.pin ≡ Some pin → IfOk result (λ answers. (is_some answers ≡ answered) × IfSome answers (λ list. list ≡ turn_answers (W.job work.old) pin.session turn pin.step.number)) }
+    requires full { (pin : PinView) × (slot.now.pin ≡ Some pin) × (pin.step.job ≡ W.job work.old)
+        × (pin.session < length (W.job work.old).sessions) × (turn < length (turns_of (W.job work.old) pin.session))
+        × (slot.now.asked ≡ first_query (turns_of (W.job work.old) pin.session) turn) }
+    ensures answers { (pin : PinView) → slot.now.pin ≡ Some pin
+        → IfOk result (λ answers. (is_some answers ≡ answered)
+        × IfSome answers (λ list. list ≡ turn_answers (W.job work.old) pin.session turn pin.step.number)) }
     ensures same { W.job work.new ≡ W.job work.old }
     ensures stays { W.next work.new ≡ W.next work.old }
 {
@@ -146,10 +152,14 @@ fn drive_unpin<W: Work>(
     session: u32,
     answered: bool,
 ) -> Result<(), NoMemory>
-    requires out { (k : ℕ) × CanHappen registry.old.job (after registry.old.job registry.old.journal) (Unpin session k answered) }
+    requires out { (k : ℕ) × CanHappen registry.old.job (after registry.old.job registry.old.journal)
+        (Unpin session k answered) }
     requires ready { IsReady registry.old (W.job work.old) (W.next work.old) slots.old.items }
     ensures job { registry.new.job ≡ registry.old.job }
-    ensures done { OnOk result ((k : ℕ) → CanHappen registry.old.job (after registry.old.job registry.old.journal) (Unpin session k answered) → (registry.new.journal ≡ registry.old.journal ++ Unpin session k answered ∷ []) × (slots.new.items ≡ slots_of registry.old.job (effect (after registry.old.job registry.old.journal) (Unpin session k answered)))) }
+    ensures done { OnOk result ((k : ℕ) → CanHappen registry.old.job (after registry.old.job registry.old.journal)
+        (Unpin session k answered) → (registry.new.journal ≡ registry.old.journal ++ Unpin session k answered ∷ [])
+        × (slots.new.items ≡ slots_of registry.old.job
+        (effect (after registry.old.job registry.old.journal) (Unpin session k answered)))) }
     ensures refused { OnErr result ((registry.new ≡ registry.old) × (slots.new.items ≡ slots.old.items)) }
     ensures same { W.job work.new ≡ W.job work.old }
     ensures stays { W.next work.new ≡ W.next work.old }
@@ -224,11 +234,12 @@ fn drive_all<W: Work>(
     CoreStop::All
 }
 
-/// Plays the events on a new registry, each with what `work` makes for it, and drops the steps that are then held by nobody.
+/// Plays the events on a new registry, each with what `work` makes for it, and drops the steps that are then held by
+/// nobody.
 ///
-/// It stops at the first event that may not happen after the ones before it, and at one for which memory is refused. The pins are
-/// those that sessions then have out; `Registry::give_up` takes them back. Beside what `work` does, each event costs what the
-/// registry's call costs.
+/// It stops at the first event that may not happen after the ones before it, and at one for which memory is refused.
+/// The pins are those that sessions then have out; `Registry::give_up` takes them back. Beside what `work` does, each
+/// event costs what the registry's call costs.
 pub fn core_run<W: Work>(
     alloc: Global,
     registry: Registry,
@@ -242,7 +253,8 @@ pub fn core_run<W: Work>(
     ensures ends { EndsAs registry.job events.now result.registry.journal result.stop }
     ensures legal { IsLegal result.registry.job result.registry.journal }
     ensures pins { result.pins ≡ pins_of result.registry.job (after result.registry.job result.registry.journal) }
-    ensures can_give_up { CanGiveUp result.registry.job (after result.registry.job result.registry.journal) result.pins }
+    ensures can_give_up { CanGiveUp result.registry.job
+        (after result.registry.job result.registry.journal) result.pins }
 {
     let mut registry = registry;
     let count = registry.job().sessions();

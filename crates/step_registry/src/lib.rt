@@ -1,7 +1,9 @@
-//! The registry of steps: which are published, which session has which step out, which are held, and what happened so far.
+//! The registry of steps: which are published, which session has which step out, which are held, and what happened so
+//! far.
 //!
-//! One list of events, the journal, tells all of it: each event may come only where the ones before it allow it, and what the
-//! registry holds, hands out and knows of a session are functions of the journal. `core_run` plays a list of events on one thread.
+//! One list of events, the journal, tells all of it: each event may come only where the ones before it allow it, and
+//! what the registry holds, hands out and knows of a session are functions of the journal. `core_run` plays a list of
+//! events on one thread.
 #![tactic(auto)]
 
 mod answers;

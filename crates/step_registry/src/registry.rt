@@ -21,11 +21,11 @@ use step_view::{Shares, Step};
 
 /// The registry of the steps of one job.
 ///
-/// Contracts see the job and the journal, the list of all events so far. All else is a function of these: which step is newest,
-/// which session has which step out, how many turns each has done, which steps are held, and what was answered.
+/// Contracts see the job and the journal, the list of all events so far. All else is a function of these: which step is
+/// newest, which session has which step out, how many turns each has done, which steps are held, and what was answered.
 ///
-/// Each call takes constant time but for a search among at most nine rows, where it says nothing else, and none but `new` takes
-/// memory.
+/// Each call takes constant time but for a search among at most nine rows, where it says nothing else, and none but
+/// `new` takes memory.
 #[derive(Drop)]
 pub struct Registry {
     job: Arc<Job>,
@@ -48,7 +48,13 @@ impl Model for Registry {
 
     ghost view = { λ r. record { job = arc_value r.job; journal = r.journal.items } };
 
-    ghost invariant = { λ r. IsKept (arc_value r.job) r.journal.items (record { newest = r.newest; closed = r.is_closed; sessions = r.sessions.items }) r.latest r.older.items r.answers.items (vec_capacity r.journal) (vec_capacity r.answers) (vec_capacity r.older) };
+    ghost invariant = { λ r. IsKept (arc_value r.job) r.journal.items
+        (record {
+          newest = r.newest;
+          closed = r.is_closed;
+          sessions = r.sessions.items;
+        }) r.latest r.older.items r.answers.items (vec_capacity r.journal)
+        (vec_capacity r.answers) (vec_capacity r.older) };
 }
 
 impl Registry {
@@ -60,8 +66,8 @@ impl Registry {
 
     /// A registry with nothing in its journal, whose newest step is step 0. After NoMemory the shares are gone.
     ///
-    /// It takes all room that any history of the job needs: for an event of each step, two of each turn and one more, and for an
-    /// answer of each box. It goes once over the job's turns.
+    /// It takes all room that any history of the job needs: for an event of each step, two of each turn and one more,
+    /// and for an answer of each box. It goes once over the job's turns.
     pub fn new(alloc: Global, shares: Shares) -> Result<Registry, NoMemory>
         requires { shares ≡ all_shares shares.step.job 0 }
         ensures { IfOk result (λ r. (r.job ≡ shares.step.job) × (r.journal ≡ [])) }
@@ -90,7 +96,8 @@ impl Registry {
         requires all { shares ≡ all_shares self.old.job shares.step.number }
         ensures job { self.new.job ≡ self.old.job }
         ensures journal { self.new.journal ≡ self.old.journal ++ Publish shares.step.number ∷ [] }
-        ensures freed { option_to_list result ≡ map (all_shares self.old.job) (freed_by (after self.old.job self.old.journal) (Publish shares.step.number)) }
+        ensures freed { option_to_list result ≡ map (all_shares self.old.job)
+            (freed_by (after self.old.job self.old.journal) (Publish shares.step.number)) }
     {
         let number = shares.step().number();
         let all = shares.count();
@@ -102,9 +109,11 @@ impl Registry {
 
     /// Gives session s the newest step.
     pub fn pin(&mut self, s: u32) -> StepPin
-        requires can { CanHappen self.old.job (after self.old.job self.old.journal) (Pin s (after self.old.job self.old.journal).newest) }
+        requires can { CanHappen self.old.job (after self.old.job self.old.journal)
+            (Pin s (after self.old.job self.old.journal).newest) }
         ensures job { self.new.job ≡ self.old.job }
-        ensures journal { self.new.journal ≡ self.old.journal ++ Pin s (after self.old.job self.old.journal).newest ∷ [] }
+        ensures journal { self.new.journal ≡ self.old.journal
+            ++ Pin s (after self.old.job self.old.journal).newest ∷ [] }
         ensures session { result.session ≡ s }
         ensures step { result.step ≡ step_of self.old.job (after self.old.job self.old.journal).newest }
     {
@@ -118,15 +127,20 @@ impl Registry {
         StepPin::of(s, step)
     }
 
-    /// Takes a pin back: with the answers of the session's turn, or without, and then the session stops. Hands out all shares of
-    /// the step where it isn't the newest one and no other session has it out.
+    /// Takes a pin back: with the answers of the session's turn, or without, and then the session stops. Hands out all
+    /// shares of the step where it isn't the newest one and no other session has it out.
     pub fn unpin(&mut self, pin: StepPin, answers: Option<AnswerList>) -> Option<Shares>
         requires job { pin.step.job ≡ self.old.job }
-        requires can { CanHappen self.old.job (after self.old.job self.old.journal) (Unpin pin.session pin.step.number (is_some answers)) }
-        requires answers { IfSome answers (λ list. list ≡ turn_answers self.old.job pin.session (session_of (after self.old.job self.old.journal) pin.session).done pin.step.number) }
+        requires can { CanHappen self.old.job (after self.old.job self.old.journal)
+            (Unpin pin.session pin.step.number (is_some answers)) }
+        requires answers { IfSome answers (λ list.
+            list ≡ turn_answers self.old.job pin.session
+            (session_of (after self.old.job self.old.journal) pin.session).done pin.step.number) }
         ensures job { self.new.job ≡ self.old.job }
-        ensures journal { self.new.journal ≡ self.old.journal ++ Unpin pin.session pin.step.number (is_some answers) ∷ [] }
-        ensures freed { option_to_list result ≡ map (all_shares self.old.job) (freed_by (after self.old.job self.old.journal) (Unpin pin.session pin.step.number (is_some answers))) }
+        ensures journal { self.new.journal ≡ self.old.journal
+            ++ Unpin pin.session pin.step.number (is_some answers) ∷ [] }
+        ensures freed { option_to_list result ≡ map (all_shares self.old.job)
+            (freed_by (after self.old.job self.old.journal) (Unpin pin.session pin.step.number (is_some answers))) }
     {
         let (session, step) = pin.into_parts();
         self.take_back(session, step, answers)
@@ -135,11 +149,15 @@ impl Registry {
     // Takes a share back from a session.
     fn take_back(&mut self, session: u32, step: Step, answers: Option<AnswerList>) -> Option<Shares>
         requires own { step ≡ step_of self.old.job step.number }
-        requires can { CanHappen self.old.job (after self.old.job self.old.journal) (Unpin session step.number (is_some answers)) }
-        requires answers { IfSome answers (λ list. list ≡ turn_answers self.old.job session (session_of (after self.old.job self.old.journal) session).done step.number) }
+        requires can { CanHappen self.old.job (after self.old.job self.old.journal)
+            (Unpin session step.number (is_some answers)) }
+        requires answers { IfSome answers (λ list.
+            list ≡ turn_answers self.old.job session
+            (session_of (after self.old.job self.old.journal) session).done step.number) }
         ensures job { self.new.job ≡ self.old.job }
         ensures journal { self.new.journal ≡ self.old.journal ++ Unpin session step.number (is_some answers) ∷ [] }
-        ensures freed { option_to_list result ≡ map (all_shares self.old.job) (freed_by (after self.old.job self.old.journal) (Unpin session step.number (is_some answers))) }
+        ensures freed { option_to_list result ≡ map (all_shares self.old.job)
+            (freed_by (after self.old.job self.old.journal) (Unpin session step.number (is_some answers))) }
     {
         let number = step.number();
         let all = self.sessions.len() as u32 + 1;
@@ -238,8 +256,8 @@ impl Registry {
         held_numbers(self.older.as_slice(), self.newest)
     }
 
-    /// Whether all steps were published, the plan is closed, and each session has done all its turns and has no step out. It goes
-    /// once over the sessions.
+    /// Whether all steps were published, the plan is closed, and each session has done all its turns and has no step
+    /// out. It goes once over the sessions.
     pub fn is_whole(&self) -> bool
         ensures { IsTrue result ↔ IsWhole self.now.job self.now.journal }
     {

@@ -28,8 +28,11 @@ pub fn put_back(rows: &mut Vec<Shares>, place: usize, share: Step, all: u32) -> 
     requires same { (row_back rows.old.items place).step ≡ share }
     requires room { (row_back rows.old.items place).count < all }
     requires few { all ≤ 9 }
-    ensures full { (row_back rows.old.items place).count + 1 ≡ all → (rows.new.items ≡ remove rows.old.items place) × (result ≡ Some (record { step = share; count = all })) }
-    ensures partly { (row_back rows.old.items place).count + 1 < all → (rows.new.items ≡ slice_set rows.old.items place (record { step = share; count = (row_back rows.old.items place).count + 1 })) × (result ≡ None) }
+    ensures full { (row_back rows.old.items place).count + 1 ≡ all
+        → (rows.new.items ≡ remove rows.old.items place) × (result ≡ Some (record { step = share; count = all })) }
+    ensures partly { (row_back rows.old.items place).count + 1 < all
+        → (rows.new.items ≡ slice_set rows.old.items place
+        (record { step = share; count = (row_back rows.old.items place).count + 1 })) × (result ≡ None) }
     ensures capacity { vec_capacity rows.new ≡ vec_capacity rows.old }
 {
     let row = &mut rows[place];
@@ -56,7 +59,8 @@ pub fn keep_former(rows: &mut Vec<Shares>, former: Shares, all: u32) -> Option<S
     }
 }
 
-// Puts a share back, to the newest step's row or to an older one, and hands an older row out where it then has all shares.
+// Puts a share back, to the newest step's row or to an older one, and hands an older row out where it then has all
+// shares.
 pub fn give_back(
     latest: &mut Shares,
     rows: &mut Vec<Shares>,
@@ -66,10 +70,15 @@ pub fn give_back(
 ) -> Option<Shares>
     requires few { all ≤ 9 }
     requires latest { share.number ≡ newest → (share ≡ latest.old.step) × (latest.old.count < all) }
-    requires there { share.number ≢ newest → (i : ℕ) × (i < length rows.old.items) × (number_at rows.old.items i ≡ share.number) }
-    requires row { share.number ≢ newest → (i : ℕ) → i < length rows.old.items → number_at rows.old.items i ≡ share.number → ((row_back rows.old.items i).step ≡ share) × ((row_back rows.old.items i).count < all) }
-    ensures newest { share.number ≡ newest → (latest.new.step ≡ latest.old.step) × (latest.new.count ≡ latest.old.count + 1) × (rows.new.items ≡ rows.old.items) × (result ≡ None) }
-    ensures older { share.number ≢ newest → (latest.new ≡ latest.old) × ((place : ℕ) × IsBackAt rows.old.items rows.new.items share all result place) }
+    requires there { share.number ≢ newest → (i : ℕ) × (i < length rows.old.items)
+        × (number_at rows.old.items i ≡ share.number) }
+    requires row { share.number ≢ newest → (i : ℕ) → i < length rows.old.items
+        → number_at rows.old.items i ≡ share.number
+        → ((row_back rows.old.items i).step ≡ share) × ((row_back rows.old.items i).count < all) }
+    ensures newest { share.number ≡ newest → (latest.new.step ≡ latest.old.step)
+        × (latest.new.count ≡ latest.old.count + 1) × (rows.new.items ≡ rows.old.items) × (result ≡ None) }
+    ensures older { share.number ≢ newest → (latest.new ≡ latest.old)
+        × ((place : ℕ) × IsBackAt rows.old.items rows.new.items share all result place) }
     ensures capacity { vec_capacity rows.new ≡ vec_capacity rows.old }
 {
     let number = share.number();

@@ -10,7 +10,8 @@ use std::alloc::Global;
 
 pub fn pin_session(sessions: &mut Vec<SessionState>, s: u32, step: u32)
     requires { s < length sessions.old.items }
-    ensures { sessions.new.items ≡ slice_set sessions.old.items s (pinned step (slice_index_or sessions.old.items s fresh)) }
+    ensures { sessions.new.items ≡ slice_set sessions.old.items s
+        (pinned step (slice_index_or sessions.old.items s fresh)) }
 {
     let me = sessions[s as usize];
     sessions[s as usize] = SessionState {
@@ -23,7 +24,8 @@ pub fn pin_session(sessions: &mut Vec<SessionState>, s: u32, step: u32)
 pub fn unpin_session(sessions: &mut Vec<SessionState>, s: u32, answered: bool)
     requires there { s < length sessions.old.items }
     requires fits { (slice_index_or sessions.old.items s fresh).done < 100000 }
-    ensures { sessions.new.items ≡ slice_set sessions.old.items s (unpinned answered (slice_index_or sessions.old.items s fresh)) }
+    ensures { sessions.new.items ≡ slice_set sessions.old.items s
+        (unpinned answered (slice_index_or sessions.old.items s fresh)) }
 {
     let me = sessions[s as usize];
     sessions[s as usize] = if answered {
@@ -44,7 +46,9 @@ pub fn unpin_session(sessions: &mut Vec<SessionState>, s: u32, answered: bool)
 // Whether a session may pin the newest step.
 pub fn can_pin(job: &Job, sessions: &[SessionState], s: u32, newest: u32) -> bool
     requires there { (s < length sessions.now) × (s < length job.now.sessions) }
-    ensures { let me = slice_index_or sessions.now s fresh in IsTrue result ↔ ((me.out ≡ None) × (me.is_stopped ≡ false) × (me.done < length (turns_of job.now s)) × ((turn_at job.now s me.done).need ≤ newest)) }
+    ensures { let me = slice_index_or sessions.now s fresh in IsTrue result ↔
+        ((me.out ≡ None) × (me.is_stopped ≡ false) × (me.done < length (turns_of job.now s))
+        × ((turn_at job.now s me.done).need ≤ newest)) }
 {
     let me = sessions[s as usize];
     let turns = job.turns(s);

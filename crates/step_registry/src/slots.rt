@@ -46,7 +46,8 @@ fn fill(mut slots: Vec<Slot>, count: u32) -> Vec<Slot>
 pub fn put_slot(slots: &mut Vec<Slot>, s: u32, pin: StepPin)
     requires there { s < length slots.old.items }
     requires empty { (slice_index_or slots.old.items s no_slot).pin ≡ None }
-    ensures { slots.new.items ≡ slice_set slots.old.items s (record { pin = Some pin; asked = (slice_index_or slots.old.items s no_slot).asked }) }
+    ensures { slots.new.items ≡ slice_set slots.old.items s
+        (record { pin = Some pin; asked = (slice_index_or slots.old.items s no_slot).asked }) }
 {
     let slot = &mut slots[s as usize];
     match mem::replace(&mut slot.pin, Some(pin)) {
@@ -60,7 +61,8 @@ pub fn take_slot(slots: &mut Vec<Slot>, s: u32, more: u32) -> StepPin
     requires there { s < length slots.old.items }
     requires full { (pin : PinView) × ((slice_index_or slots.old.items s no_slot).pin ≡ Some pin) }
     requires few { (slice_index_or slots.old.items s no_slot).asked + more ≤ 100000 }
-    ensures slots { slots.new.items ≡ slice_set slots.old.items s (record { pin = None; asked = (slice_index_or slots.old.items s no_slot).asked + more }) }
+    ensures slots { slots.new.items ≡ slice_set slots.old.items s
+        (record { pin = None; asked = (slice_index_or slots.old.items s no_slot).asked + more }) }
     ensures pin { Some result ≡ (slice_index_or slots.old.items s no_slot).pin }
 {
     let slot = &mut slots[s as usize];

@@ -105,7 +105,8 @@ box 3 0 0 7 0 0
 end
 ";
 
-// A script, a run over a list of events, and what it ends with: why, with how many events and answers, and which steps are held.
+// A script, a run over a list of events, and what it ends with: why, with how many events and answers, and which steps
+// are held.
 struct Case {
     script: &'static str,
     events: &'static [Event],

@@ -15,7 +15,14 @@ abbrev pub publisher_view : Stands → PublisherView
 publisher_view s = record { table = s.table; job = s.theme; seen = s.seen; words = s.known }
 
 abbrev pub session_view : Stands → ℕ → ℕ → SessionView
-session_view s session known = record { table = s.table; session = session; job = s.theme; seen = s.seen; words = s.known; known = known }
+session_view s session known = record {
+  table = s.table;
+  session = session;
+  job = s.theme;
+  seen = s.seen;
+  words = s.known;
+  known = known;
+}
 
 abbrev pub LockSeat : Type 0
 LockSeat = KeptSeat RegistryView JobView Event

@@ -61,21 +61,24 @@ new_session lock job s = record { table = lock; session = s; job = job; seen = [
 abbrev pub earlier : List Event → List Event
 earlier h = take (length h - 1) h
 
--- the history goes on from what a seat has seen, has of the seat's number just its own events, and each word that it knows is true of it
+-- the history goes on from what a seat has seen, has of the seat's number just its own events, and each word that it
+-- knows is true of it
 pub record Follows (number : ℕ) (seen : List Event) (words : List ℕ) (h : List Event) : Type 0 where
   pub begins : Begins seen h
   pub own : own number h ≡ own number seen
   pub known : All (Says h) words
 
 -- the seat made the event, in a legal history that follows it up to there
-pub record Adds (job : JobView) (number : ℕ) (seen : List Event) (words : List ℕ) (e : Event) (now : List Event) : Type 0 where
+pub record Adds (job : JobView) (number : ℕ) (seen : List Event) (words : List ℕ) (e : Event)
+    (now : List Event) : Type 0 where
   pub last : now ≡ earlier now ++ e ∷ []
   pub legal : IsLegal job now
   pub follows : Follows number seen words (earlier now)
 
 -- the step was published by the end of each legal history that follows the seat
 abbrev pub IsKnown : JobView → ℕ → List Event → List ℕ → ℕ → Type 0
-IsKnown job number seen words k = (h : List Event) → IsLegal job h → Follows number seen words h → k ≤ (after job h).newest
+IsKnown job number seen words k = (h : List Event) → IsLegal job h → Follows number seen words h
+    → k ≤ (after job h).newest
 
 -- the word was loaded last, after any number of others
 abbrev pub Loaded : ℕ → List ℕ → List ℕ → Type 0

@@ -12,7 +12,8 @@ use turn_table::TurnSeat;
 pub struct PublisherSeat {
     pub(crate) seat: TurnSeat<Registry>,
     pub(crate) published: u32,
-    // Where all seats of the lock come together at the end. It has its room from the start, so that `finish` takes none.
+    // Where all seats of the lock come together at the end. It has its room from the start, so that `finish` takes
+    // none.
     pub(crate) room: Vec<TurnSeat<Registry>>,
 }
 
@@ -42,8 +43,8 @@ impl PublisherSeat {
 
 /// The seat of a session. It may go to another thread.
 ///
-/// Contracts see which table and which session it is of, its job, the history that it has seen, the words of the table that
-/// it knows, and a step that these show to be published.
+/// Contracts see which table and which session it is of, its job, the history that it has seen, the words of the table
+/// that it knows, and a step that these show to be published.
 #[derive(Drop)]
 pub struct SessionSeat {
     pub(crate) seat: TurnSeat<Registry>,

@@ -48,8 +48,8 @@ impl Model for StepTable {
 impl StepTable {
     ghost use Rattle.step_table.specs.Seats.{TableView, PublisherView, SessionView, published_of, closed_of, state_of, next_turn, new_publisher, earlier, Follows, Adds, Tells};
 
-    /// A table over a registry in whose journal nothing stands yet, with a seat for the publisher and one for each session.
-    /// The seats have seen nothing and know no word. After `NoMemory` the registry is gone.
+    /// A table over a registry in whose journal nothing stands yet, with a seat for the publisher and one for each
+    /// session. The seats have seen nothing and know no word. After `NoMemory` the registry is gone.
     ///
     /// It takes all memory that the table will need: some words for each seat.
     pub fn new(
@@ -57,9 +57,11 @@ impl StepTable {
         registry: Registry,
     ) -> Result<(StepTable, PublisherSeat, SessionSeats), NoMemory>
         requires { registry.journal ≡ [] }
-        ensures count { IfOk result (λ made. (made.0.sessions ≡ length registry.job.sessions) × (length made.2 ≡ length registry.job.sessions)) }
+        ensures count { IfOk result (λ made. (made.0.sessions ≡ length registry.job.sessions)
+            × (length made.2 ≡ length registry.job.sessions)) }
         ensures publisher { IfOk result (λ made. made.1 ≡ new_publisher made.0.lock registry.job) }
-        ensures sessions { IfOk result (λ made. EachSession (λ s v. v ≡ new_session made.0.lock registry.job s) made.2) }
+        ensures sessions { IfOk result (λ made. EachSession
+            (λ s v. v ≡ new_session made.0.lock registry.job s) made.2) }
     {
         let sessions = registry.job().sessions();
         let shadow = Snapshot::of(&registry);
@@ -83,8 +85,8 @@ impl StepTable {
 
     /// Publishes the step after the newest one, of which these are all shares, and wakes those that wait for it.
     ///
-    /// It hands out all shares of the former newest step, where no session has that step out. They are handed out when the
-    /// turn is over, so that the caller gives a step's memory back while no lock is held.
+    /// It hands out all shares of the former newest step, where no session has that step out. They are handed out when
+    /// the turn is over, so that the caller gives a step's memory back while no lock is held.
     ///
     /// It may wait for its turn, and takes no memory.
     pub fn publish<R: Wait>(
@@ -96,11 +98,13 @@ impl StepTable {
         requires table { seat.old.table ≡ self.now.lock }
         requires open { closed_of seat.old ≡ false }
         requires all { shares ≡ all_shares seat.old.job (published_of seat.old + 1) }
-        ensures event { Adds seat.old.job 0 seat.old.seen seat.old.words (Publish (published_of seat.old + 1)) seat.new.seen }
+        ensures event { Adds seat.old.job 0 seat.old.seen seat.old.words
+            (Publish (published_of seat.old + 1)) seat.new.seen }
         ensures seat { seat.new ≡ record seat.old { seen = seat.new.seen } }
         ensures published { published_of seat.new ≡ published_of seat.old + 1 }
         ensures open { closed_of seat.new ≡ false }
-        ensures freed { option_to_list result ≡ map (all_shares seat.old.job) (freed_by (after seat.old.job (earlier seat.new.seen)) (Publish (published_of seat.old + 1))) }
+        ensures freed { option_to_list result ≡ map (all_shares seat.old.job)
+            (freed_by (after seat.old.job (earlier seat.new.seen)) (Publish (published_of seat.old + 1))) }
     {
         let number = shares.step().number();
         let (mut registry, turn) = self.turns.take(rt, &mut seat.seat);
@@ -129,8 +133,8 @@ impl StepTable {
             .show(&mut seat.seat, 2 * u64::from(seat.published) + 1);
     }
 
-    /// A share of the newest step, for the session's next turn. The step is at least `known`, and so at least each step that
-    /// this session pinned before; `known` is then this step.
+    /// A share of the newest step, for the session's next turn. The step is at least `known`, and so at least each step
+    /// that this session pinned before; `known` is then this step.
     ///
     /// It may wait for its turn, and takes no memory.
     pub fn pin<R: Wait>(&self, rt: &R, seat: &mut SessionSeat) -> StepPin
@@ -139,7 +143,8 @@ impl StepTable {
         requires goes { (state_of seat.old).is_stopped ≡ false }
         requires left { (state_of seat.old).done < length (turns_of seat.old.job seat.old.session) }
         requires need { (next_turn seat.old).need ≤ seat.old.known }
-        ensures event { Adds seat.old.job (seat.old.session + 1) seat.old.seen seat.old.words (Pin seat.old.session result.step.number) seat.new.seen }
+        ensures event { Adds seat.old.job (seat.old.session + 1) seat.old.seen seat.old.words
+            (Pin seat.old.session result.step.number) seat.new.seen }
         ensures pin { result ≡ pin_of seat.old.job seat.old.session (after seat.old.job seat.new.seen).newest }
         ensures fresh { seat.old.known ≤ result.step.number }
         ensures seat { seat.new ≡ record seat.old { seen = seat.new.seen; known = result.step.number } }
@@ -154,8 +159,8 @@ impl StepTable {
 
     /// Gives a share back, with the answers of the turn, or with none: then the session is stopped.
     ///
-    /// It hands out all shares of the step, where a newer one is published and no session has this one out any more. They
-    /// are handed out when the turn is over, so that the caller gives a step's memory back while no lock is held.
+    /// It hands out all shares of the step, where a newer one is published and no session has this one out any more.
+    /// They are handed out when the turn is over, so that the caller gives a step's memory back while no lock is held.
     ///
     /// It may wait for its turn, and takes no memory.
     pub fn unpin<R: Wait>(
@@ -169,11 +174,15 @@ impl StepTable {
         requires job { pin.step.job ≡ seat.old.job }
         requires session { pin.session ≡ seat.old.session }
         requires out { (state_of seat.old).out ≡ Some pin.step.number }
-        requires answers { IfSome answers (λ list. list ≡ turn_answers seat.old.job seat.old.session (state_of seat.old).done pin.step.number) }
-        ensures event { Adds seat.old.job (seat.old.session + 1) seat.old.seen seat.old.words (Unpin seat.old.session pin.step.number (is_some answers)) seat.new.seen }
+        requires answers { IfSome answers (λ list.
+            list ≡ turn_answers seat.old.job seat.old.session (state_of seat.old).done pin.step.number) }
+        ensures event { Adds seat.old.job (seat.old.session + 1) seat.old.seen seat.old.words
+            (Unpin seat.old.session pin.step.number (is_some answers)) seat.new.seen }
         ensures seat { seat.new ≡ record seat.old { seen = seat.new.seen } }
         ensures state { state_of seat.new ≡ unpinned (is_some answers) (state_of seat.old) }
-        ensures freed { option_to_list result ≡ map (all_shares seat.old.job) (freed_by (after seat.old.job (earlier seat.new.seen)) (Unpin seat.old.session pin.step.number (is_some answers))) }
+        ensures freed { option_to_list result ≡ map (all_shares seat.old.job)
+            (freed_by (after seat.old.job (earlier seat.new.seen))
+            (Unpin seat.old.session pin.step.number (is_some answers))) }
     {
         let (mut registry, turn) = self.turns.take(rt, &mut seat.seat);
         let freed = registry.unpin(pin, answers);
@@ -183,8 +192,8 @@ impl StepTable {
         freed
     }
 
-    /// Waits until step k is published, or the plan is closed below it. Where it answers `Ended`, the last word that it loaded
-    /// says so.
+    /// Waits until step k is published, or the plan is closed below it. Where it answers `Ended`, the last word that it
+    /// loaded says so.
     ///
     /// It takes no turn and no memory: it loads one word, and sleeps while that tells too little.
     pub fn wait_for<R: Wait>(&self, rt: &R, seat: &mut SessionSeat, k: u32) -> Reached
@@ -224,9 +233,9 @@ impl StepTable {
 
     /// Ends the table, and gives its registry. It takes all its seats, the sessions' in the order of their numbers.
     ///
-    /// The journal goes on from what each seat has seen, has no further event of any of them, and each word that one of them
-    /// knows is true of it. So newest and closed are what the publisher's seat knows, and a session's state is what its seat
-    /// knows.
+    /// The journal goes on from what each seat has seen, has no further event of any of them, and each word that one of
+    /// them knows is true of it. So newest and closed are what the publisher's seat knows, and a session's state is
+    /// what its seat knows.
     ///
     /// It never waits, and takes no memory.
     pub fn finish(self, publisher: PublisherSeat, sessions: SessionSeats) -> Registry
@@ -238,7 +247,8 @@ impl StepTable {
         ensures legal { IsLegal result.job result.journal }
         ensures publisher { Follows 0 publisher.seen publisher.words result.journal }
         ensures sessions { EachSession (λ s v. Follows (s + 1) v.seen v.words result.journal) sessions }
-        ensures front { ((after result.job result.journal).newest ≡ published_of publisher) × ((after result.job result.journal).closed ≡ closed_of publisher) }
+        ensures front { ((after result.job result.journal).newest ≡ published_of publisher)
+            × ((after result.job result.journal).closed ≡ closed_of publisher) }
         ensures states { EachSession (λ s v. session_of (after result.job result.journal) s ≡ state_of v) sessions }
     {
         let StepTable { turns, sessions: _ } = self;
@@ -306,7 +316,8 @@ fn deal(
 // Takes the sessions' seats apart, and puts those of the lock behind the publisher's.
 fn gather(room: &mut Vec<TurnSeat<Registry>>, mut items: Vec<SessionSeat>)
     requires room { length room.old.items + length items.items ≤ vec_capacity room.old }
-    ensures { (seats : List (KeptSeat RegistryView JobView Event)) × (room.new.items ≡ room.old.items ++ seats) × AreSeatsOf seats items.items }
+    ensures { (seats : List (KeptSeat RegistryView JobView Event)) × (room.new.items ≡ room.old.items ++ seats)
+        × AreSeatsOf seats items.items }
 {
     for _ in 0..items.len() {
         let SessionSeat {

@@ -78,13 +78,14 @@ fn unpin_first<R: Wait>(
 ) -> bool
     requires out { HasOut table.now.lock pin seat.old }
     requires answers { IfSome answers (λ list. list ≡ turn_answers pin.step.job pin.session 0 pin.step.number) }
-    ensures same { (seat.new.table ≡ table.now.lock) × (seat.new.session ≡ seat.old.session) × (seat.new.job ≡ seat.old.job) }
+    ensures same { (seat.new.table ≡ table.now.lock) × (seat.new.session ≡ seat.old.session)
+        × (seat.new.job ≡ seat.old.job) }
 {
     table.unpin(rt, seat, pin, answers).is_some()
 }
 
-// Session 0 pins step 0, step 1 is published, session 1 pins it, and both give back, the second without answers. It says of
-// the last three of the publisher's and the sessions' calls whether a step was handed out.
+// Session 0 pins step 0, step 1 is published, session 1 pins it, and both give back, the second without answers. It
+// says of the last three of the publisher's and the sessions' calls whether a step was handed out.
 fn five_calls<R: Wait>(
     rt: &R,
     alloc: Global,
@@ -95,7 +96,8 @@ fn five_calls<R: Wait>(
     first: &mut SessionSeat,
     second: &mut SessionSeat,
 ) -> [bool; 3]
-    requires publisher { (publisher.old.table ≡ table.now.lock) × (publisher.old.job ≡ work.job) × (published_of publisher.old ≡ 0) × (closed_of publisher.old ≡ false) }
+    requires publisher { (publisher.old.table ≡ table.now.lock) × (publisher.old.job ≡ work.job)
+        × (published_of publisher.old ≡ 0) × (closed_of publisher.old ≡ false) }
     requires step { step ≡ all_shares work.job 1 }
     requires first { IsReady table.now.lock first.old × (first.old.job ≡ work.job) }
     requires second { IsReady table.now.lock second.old × (second.old.job ≡ work.job) }

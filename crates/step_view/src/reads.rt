@@ -4,8 +4,8 @@ ghost use Rattle.std.specs.Prelude.{◌≡◌, ◌+◌, ◌<◌, ◌≤◌};
 use std::marker::Model;
 use std::sync::ledger::{Blank, Book, Ledger, Share};
 
-/// How many places were read. It takes no bytes, so no program can print it; a contract can bound it. Only a read changes it,
-/// and it never falls.
+/// How many places were read. It takes no bytes, so no program can print it; a contract can bound it. Only a read
+/// changes it, and it never falls.
 #[derive(Drop)]
 pub struct Steps<L: Ledger> {
     book: Book<L>,

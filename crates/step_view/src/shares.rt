@@ -28,8 +28,8 @@ impl Model for Shares {
 }
 
 impl Shares {
-    /// All shares of the step: one for each session of its job, and one more. After NoMemory the step is gone. It costs three
-    /// counts a share, and copies no place and no cell.
+    /// All shares of the step: one for each session of its job, and one more. After NoMemory the step is gone. It costs
+    /// three counts a share, and copies no place and no cell.
     pub fn make(_alloc: Global, step: Step) -> Result<Shares, NoMemory>
         ensures { IfOk result (λ shares. shares ≡ all_shares step.job step.number) }
     {

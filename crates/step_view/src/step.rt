@@ -14,7 +14,8 @@ use std::sync::Arc;
 use std::sync::ledger::Ledger;
 use topo::{Positions, Shape};
 
-/// A step of a job: its mesh, which never changes. Step 0 is the job's mesh, and step k + 1 is made of step k by plan k.
+/// A step of a job: its mesh, which never changes. Step 0 is the job's mesh, and step k + 1 is made of step k by plan
+/// k.
 ///
 /// Contracts see its number, its job and its mesh, and the mesh is always that of this step of the job.
 #[derive(Drop)]
@@ -32,13 +33,18 @@ impl Model for Step {
 
     ghost Value = { StepView };
 
-    ghost view = { λ s. record { number = s.number; job = arc_value s.job; mesh = mesh_at (arc_value s.points) (arc_value s.shape) } };
+    ghost view = { λ s. record {
+      number = s.number;
+      job = arc_value s.job;
+      mesh = mesh_at (arc_value s.points) (arc_value s.shape);
+    } };
 
     ghost invariant = { λ s. IsStepOf (arc_value s.job) s.number (arc_value s.shape) (arc_value s.points) };
 }
 
 impl Step {
-    /// The step of a job with this number, whose cells are those of the shape and whose places are these. Nothing is copied.
+    /// The step of a job with this number, whose cells are those of the shape and whose places are these. Nothing is
+    /// copied.
     pub fn new(job: Arc<Job>, number: u32, shape: Arc<Shape>, points: Arc<Positions>) -> Step
         requires few { number ≤ steps (arc_value job) }
         requires shape { IsTopologyOf (step_at (arc_value job) number) (arc_value shape) }
@@ -85,14 +91,16 @@ impl Step {
         &self.shape
     }
 
-    /// The vertices of the surface, ascending: those on a face that exactly one live cell has. Nothing is searched or copied.
+    /// The vertices of the surface, ascending: those on a face that exactly one live cell has. Nothing is searched or
+    /// copied.
     pub fn surface(&self) -> &[u32]
         ensures { result.now ≡ surface self.now.mesh }
     {
         self.shape.surface()
     }
 
-    /// The neighbours of point v, ascending: the other corners of the live cells that have it. Nothing is searched or copied.
+    /// The neighbours of point v, ascending: the other corners of the live cells that have it. Nothing is searched or
+    /// copied.
     pub fn neighbours(&self, v: u32) -> &[u32]
         requires { v < length self.now.mesh.points }
         ensures { result.now ≡ neighbours self.now.mesh v }

@@ -10,7 +10,8 @@ use Rattle.topo.specs.Chunks.{chunk_of, Each, Kept, AreChunks}
 use Rattle.topo.specs.RowChunks.{RowsView, IsRowChunk}
 
 -- the chunks are those of the cells and of the neighbours, and the list is the surface
-pub record IsShape {C R : Type 0} (cell_list : C → List (Option Corners)) (row_lists : R → RowsView) (t : Topology) (so_many : ℕ) (surface : List ℕ) (cells : List C) (rows : List R) : Type 0 where
+pub record IsShape {C R : Type 0} (cell_list : C → List (Option Corners)) (row_lists : R → RowsView) (t : Topology)
+    (so_many : ℕ) (surface : List ℕ) (cells : List C) (rows : List R) : Type 0 where
   pub valid : IsTopology t.points t.cells
   pub count : so_many ≡ length t.cells
   pub listed : surface ≡ filter (is_surface t.cells) (range_with_len 0 t.points)
@@ -47,4 +48,5 @@ left_rows (Split i at) n kept = take (n / 4096) kept
 -- and where a cell comes or goes
 abbrev pub left_corners : {R : Type 0} → Option Corners → List (Option R) → List (Option R)
 left_corners None kept = kept
-left_corners (Some c) kept = slice_set (slice_set (slice_set (slice_set kept (c.0 / 4096) None) (c.1 / 4096) None) (c.2 / 4096) None) (c.3 / 4096) None
+left_corners (Some c) kept = slice_set (slice_set (slice_set (slice_set kept (c.0 / 4096) None) (c.1 / 4096) None)
+    (c.2 / 4096) None) (c.3 / 4096) None

@@ -113,7 +113,8 @@ fn forget_touched(kept: &mut Vec<Option<Arc<RowChunk>>>, touched: &Option<Cell>)
     }
 }
 
-/// The chunks of neighbours that an edit changes, where there were so many points and these are the corners of its cell.
+/// The chunks of neighbours that an edit changes, where there were so many points and these are the corners of its
+/// cell.
 pub fn forget_rows(
     kept: &mut Vec<Option<Arc<RowChunk>>>,
     edit: &Edit,

@@ -45,7 +45,8 @@ impl Model for Positions {
 
     ghost view = { λ p. flat_map arc_value p.chunks.items };
 
-    ghost invariant = { λ p. (p.len ≤ most_points) × (length (flat_map arc_value p.chunks.items) ≡ p.len) × AreChunks arc_value (flat_map arc_value p.chunks.items) p.chunks.items };
+    ghost invariant = { λ p. (p.len ≤ most_points) × (length (flat_map arc_value p.chunks.items) ≡ p.len)
+        × AreChunks arc_value (flat_map arc_value p.chunks.items) p.chunks.items };
 }
 
 // A chunk with these points: the old one, if it has them.
@@ -100,7 +101,8 @@ fn shared_with(
 }
 
 impl Positions {
-    /// The places in the list, of which there are at most 1,000,000. They are copied into chunks, and the list is let go.
+    /// The places in the list, of which there are at most 1,000,000. They are copied into chunks, and the list is let
+    /// go.
     pub fn of(alloc: Global, points: PointList) -> Result<Arc<Positions>, NoMemory>
         requires { length points ≤ MOST_POINTS }
         ensures { IfOk result (λ positions. arc_value positions ≡ points) }
@@ -116,8 +118,9 @@ impl Positions {
         shared_with(alloc, &[], points)
     }
 
-    /// The same as `of` gives. Each chunk that is equal to that of `old` is shared with it, at the cost of one count, and each
-    /// other one is copied: it compares the places in one pass, and ends the pass over a chunk where two differ.
+    /// The same as `of` gives. Each chunk that is equal to that of `old` is shared with it, at the cost of one count,
+    /// and each other one is copied: it compares the places in one pass, and ends the pass over a chunk where two
+    /// differ.
     pub fn after(
         alloc: Global,
         old: &Positions,

@@ -39,7 +39,8 @@ fn neighbour_count(tables: &Tables, first: u32, count: u32) -> usize
     sum
 }
 
-// The neighbours of so many points one after the other, and where those of each begin. Both lists are made at their length.
+// The neighbours of so many points one after the other, and where those of each begin. Both lists are made at their
+// length.
 fn list_neighbours(
     alloc: Global,
     tables: &Tables,

@@ -19,11 +19,11 @@ use std::alloc::Global;
 use std::marker::Model;
 use std::sync::Arc;
 
-/// How many points a mesh has, its cells, its surface and its neighbours, as they were when a `Topo` was frozen. It never
-/// changes, so that steps can share it.
+/// How many points a mesh has, its cells, its surface and its neighbours, as they were when a `Topo` was frozen. It
+/// never changes, so that steps can share it.
 ///
-/// The cells and the neighbours stand in chunks of 4,096, which shapes can share with each other. Contracts see what they see
-/// of a `Topo`.
+/// The cells and the neighbours stand in chunks of 4,096, which shapes can share with each other. Contracts see what
+/// they see of a `Topo`.
 #[derive(Drop)]
 pub struct Shape {
     points: u32,
@@ -43,7 +43,9 @@ impl Model for Shape {
 
     ghost view = { λ s. record { points = s.points; cells = flat_map arc_value s.cells.items } };
 
-    ghost invariant = { λ s. IsShape arc_value arc_value (record { points = s.points; cells = flat_map arc_value s.cells.items }) s.count (arc_value s.surface) s.cells.items s.rows.items };
+    ghost invariant = { λ s. IsShape arc_value arc_value
+        (record { points = s.points; cells = flat_map arc_value s.cells.items }) s.count
+        (arc_value s.surface) s.cells.items s.rows.items };
 }
 
 impl Shape {

@@ -2,7 +2,8 @@
 ghost use Rattle.std.specs.Prelude.{◌≡◌, ◌==◌, ◌↔◌, ℕ, not, ◌+◌, ◌<◌, ◌≤◌, List, Option, [], ◌∷◌, ◌++◌, Some, None, length, filter, map, slice_set, IfSome, IsSome, IsTrue, IfOk, OnOk, OnErr};
 ghost use Rattle.std.specs.Arc.{arc_value};
 ghost use Rattle.std.specs.List.{range_with_len};
-ghost use Rattle.mesh_base.specs.Mesh.{MeshView, corners_of, AreDifferent, AreWithin, AreAllDifferent, IsWithin, IsMesh, is_vertex, is_surface, are_neighbours, surface, neighbours};
+ghost use Rattle.mesh_base.specs.Mesh.{MeshView, corners_of, AreDifferent, AreWithin, IsWithin, IsMesh, is_vertex, is_surface, are_neighbours, surface, neighbours};
+ghost use Rattle.mesh_base.specs.Limits.{most_to_split};
 ghost use Rattle.mesh_base.specs.Edit.{cell_at, edited, quarters, split_cells, EditFits};
 ghost use Rattle.topo.specs.Topology.{Topology, IsTopologyOf, IsTopology, Fits};
 ghost use Rattle.topo.specs.Shapes.{touched_by};
@@ -11,7 +12,9 @@ ghost use Rattle.topo.specs.Cells.{listed};
 use crate::list::Cells;
 use edge_table::EdgeTable;
 use face_table::FaceTable;
-use mesh_base::{Cell, CellList, Edit, MOST_CELLS, MOST_POINTS, Mesh, NoMemory};
+use mesh_base::{
+    Cell, CellList, Edit, MOST_CELLS, MOST_POINTS, Mesh, NoMemory, are_all_different, live_cell,
+};
 use std::alloc::Global;
 use std::marker::Model;
 use std::sync::Arc;
@@ -35,24 +38,6 @@ impl Model for Tables {
     ghost view = { λ t. record { points = t.points; cells = listed t.cells } };
 
     ghost invariant = { λ t. AreTables t.points (listed t.cells) t.faces t.edges };
-}
-
-// The corners of a live cell differ, which its type says. Nothing is computed.
-fn is_different(cell: &Option<Cell>)
-    ensures { IfSome cell.now AreDifferent }
-{
-    if let Some(cell) = cell {
-        let _corners = cell.corners();
-    }
-}
-
-// So do those of each live cell.
-fn are_different(cells: &[Option<Cell>])
-    ensures { AreAllDifferent cells.now }
-{
-    for cell in cells {
-        is_different(cell);
-    }
 }
 
 // The cell with these corners, which differ.
@@ -90,7 +75,10 @@ impl Tables {
 
     /// The tables of the points and the cells of this mesh, whose list of cells is shared.
     pub fn of_mesh(alloc: Global, mesh: Arc<Mesh>) -> Result<Tables, NoMemory>
-        ensures { IfOk result (λ tables. tables ≡ record { points = length (arc_value mesh).points; cells = (arc_value mesh).cells }) }
+        ensures { IfOk result (λ tables. tables ≡ record {
+          points = length (arc_value mesh).points;
+          cells = (arc_value mesh).cells;
+        }) }
     {
         let points = mesh.points().len() as u32;
         Tables::of(alloc, points, Cells::Shared(mesh))
@@ -103,7 +91,7 @@ impl Tables {
         requires within { AreWithin points (listed cells) }
         ensures { IfOk result (λ tables. tables ≡ record { points = points; cells = listed cells }) }
     {
-        are_different(cells.as_slice());
+        are_all_different(cells.as_slice());
         let faces = FaceTable::build(alloc, points, cells.as_slice())?;
         let edges = EdgeTable::build(alloc, points, cells.as_slice())?;
         Ok(Tables {
@@ -160,10 +148,7 @@ impl Tables {
     fn live_cell(&self, i: u32) -> Option<Cell>
         ensures cell { result ≡ cell_at self.now.cells i }
     {
-        match self.cells.as_slice().get(i as usize) {
-            Some(cell) => *cell,
-            None => None,
-        }
+        live_cell(self.cells.as_slice(), i as usize)
     }
 
     /// Whether the edit fits.
@@ -189,7 +174,8 @@ impl Tables {
 
     /// The corners of the cell that the edit puts in, takes out or splits.
     pub fn touched(&self, edit: &Edit) -> Option<Cell>
-        ensures { (mesh : MeshView) → IsTopologyOf mesh self.now → EditFits mesh edit.now → result ≡ touched_by mesh edit.now }
+        ensures { (mesh : MeshView) → IsTopologyOf mesh self.now → EditFits mesh edit.now
+            → result ≡ touched_by mesh edit.now }
     {
         match *edit {
             Edit::Point { .. } => None,
@@ -202,7 +188,8 @@ impl Tables {
     /// Makes the edit, in place, or changes nothing.
     pub fn edit(&mut self, alloc: Global, edit: &Edit) -> Result<(), NoMemory>
         requires fits { Fits self.old edit.now }
-        ensures edited { OnOk result ((mesh : MeshView) → IsTopologyOf mesh self.old → IsTopologyOf (edited mesh edit.now) self.new) }
+        ensures edited { OnOk result ((mesh : MeshView) → IsTopologyOf mesh self.old
+            → IsTopologyOf (edited mesh edit.now) self.new) }
         ensures err { OnErr result (self.new ≡ self.old) }
     {
         match *edit {
@@ -282,9 +269,10 @@ impl Tables {
     fn split(&mut self, alloc: Global, i: u32) -> Result<(), NoMemory>
         requires live { IsSome (cell_at self.old.cells i) }
         requires few_points { self.old.points < MOST_POINTS }
-        requires few_cells { length self.old.cells ≤ 3999996 }
+        requires few_cells { length self.old.cells ≤ most_to_split }
         ensures points { OnOk result (self.new.points ≡ self.old.points + 1) }
-        ensures cells { OnOk result (IfSome (cell_at self.old.cells i) (λ c. self.new.cells ≡ split_cells self.old.cells self.old.points i c)) }
+        ensures cells { OnOk result (IfSome (cell_at self.old.cells i)
+            (λ c. self.new.cells ≡ split_cells self.old.cells self.old.points i c)) }
         ensures err { OnErr result (self.new ≡ self.old) }
     {
         let cell = self.live_cell(i).unwrap();

@@ -495,8 +495,8 @@ fn shapes_after_edits_are_as_built_anew(rt: HostRuntime) -> Result<(), Fail> {
     Ok(())
 }
 
-// So are those of a topology that shares the cells of a mesh, which stays as it is. The topology and the first shape let go
-// of it once an edit has changed each of the shape's two chunks.
+// So are those of a topology that shares the cells of a mesh, which stays as it is. The topology and the first shape
+// let go of it once an edit has changed each of the shape's two chunks.
 #[test]
 fn shapes_of_a_shared_mesh_are_as_built_anew(rt: HostRuntime) -> Result<(), Fail> {
     let alloc = rt.alloc();

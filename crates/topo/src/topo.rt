@@ -16,11 +16,11 @@ use std::sync::Arc;
 
 /// How many points a mesh has, and its cells, with the surface and the neighbours that follow from them.
 ///
-/// Points and cells are numbered from 0. An absent cell keeps its number. Contracts see a number and a list of cells, and
-/// speak of every mesh that has so many points and these cells.
+/// Points and cells are numbered from 0. An absent cell keeps its number. Contracts see a number and a list of cells,
+/// and speak of every mesh that has so many points and these cells.
 ///
-/// It keeps the last shape that `freeze_next` gave, until an edit comes, and its chunks, until an edit changes what is in them:
-/// what is kept is what the topology is now.
+/// It keeps the last shape that `freeze_next` gave, until an edit comes, and its chunks, until an edit changes what is
+/// in them: what is kept is what the topology is now.
 #[derive(Drop)]
 pub struct Topo {
     tables: Tables,
@@ -45,7 +45,7 @@ impl Model for Topo {
 impl Topo {
     /// The topology of these cells over points numbered from 0. After NoMemory the list is gone.
     ///
-    /// It passes over the cells and over the points, and looks each face up once.
+    /// It passes a few times over the cells and the points, range of points by range of points.
     pub fn build(alloc: Global, points: u32, cells: CellList) -> Result<Topo, NoMemory>
         requires few_points { points ≤ MOST_POINTS }
         requires few_cells { length cells ≤ MOST_CELLS }
@@ -61,10 +61,13 @@ impl Topo {
 
     /// The topology of this mesh, which stays as it is. After NoMemory the topology's share of it is gone.
     ///
-    /// It costs what `build` costs, and copies no cell: the cells are shared with the mesh until an edit changes one. The chunks
-    /// of its shapes that no edit changes stay parts of the mesh.
+    /// It costs what `build` costs, and copies no cell: the cells are shared with the mesh until an edit changes one.
+    /// The chunks of its shapes that no edit changes stay parts of the mesh.
     pub fn of_mesh(alloc: Global, mesh: Arc<Mesh>) -> Result<Topo, NoMemory>
-        ensures { IfOk result (λ topo. topo ≡ record { points = length (arc_value mesh).points; cells = (arc_value mesh).cells }) }
+        ensures { IfOk result (λ topo. topo ≡ record {
+          points = length (arc_value mesh).points;
+          cells = (arc_value mesh).cells;
+        }) }
     {
         let tables = Tables::of_mesh(alloc, mesh)?;
         let mut kept = KeptChunks::new(alloc);
@@ -113,10 +116,11 @@ impl Topo {
         self.tables.surface()
     }
 
-    /// A shape that is what the topology is now, and stays so whatever is edited later. After NoMemory nothing has changed.
+    /// A shape that is what the topology is now, and stays so whatever is edited later. After NoMemory nothing has
+    /// changed.
     ///
-    /// It copies the neighbours, the surface and the cells, whether or not an edit came since the last one. Cells that are still
-    /// those of a mesh aren't copied.
+    /// It copies the neighbours, the surface and the cells, whether or not an edit came since the last one. Cells that
+    /// are still those of a mesh aren't copied.
     pub fn freeze(&self, alloc: Global) -> Result<Arc<Shape>, NoMemory>
         ensures { IfOk result (λ shape. arc_value shape ≡ self.now) }
     {
@@ -127,7 +131,8 @@ impl Topo {
     /// The same as `freeze` gives. After NoMemory nothing has changed.
     ///
     /// Where no edit was made since the last shape that it gave, it gives that very shape, at the cost of one count.
-    /// Otherwise it shares each chunk that no edit changed, at the cost of one count, and copies the others and the surface.
+    /// Otherwise it shares each chunk that no edit changed, at the cost of one count, and copies the others and the
+    /// surface.
     pub fn freeze_next(&mut self, alloc: Global) -> Result<Arc<Shape>, NoMemory>
         ensures ok { IfOk result (λ shape. arc_value shape ≡ self.old) }
         ensures same { self.new ≡ self.old }
@@ -141,8 +146,8 @@ impl Topo {
         Ok(shape)
     }
 
-    /// Whether the edit fits: the points and the cell that it names are there, the cell is live, the four numbers of a new
-    /// cell differ, and the mesh stays within its limits of 1,000,000 points and 4,000,000 cells.
+    /// Whether the edit fits: the points and the cell that it names are there, the cell is live, the four numbers of a
+    /// new cell differ, and the mesh stays within its limits of 1,000,000 points and 4,000,000 cells.
     pub fn edit_ok(&self, edit: &Edit) -> bool
         ensures fits { IsTrue result ↔ Fits self.now edit.now }
         ensures each { (mesh : MeshView) → IsTopologyOf mesh self.now → IsTrue result ↔ EditFits mesh edit.now }
@@ -152,13 +157,15 @@ impl Topo {
 
     /// Makes the edit, in place. After NoMemory the topology is as it was.
     ///
-    /// A cell that comes or goes costs its put or its take in the tables of faces and of neighbours, and a vertex that so comes
-    /// to the surface or leaves it moves what stands behind it in the list of the surface. A split costs six look-ups of faces
-    /// and twelve searches in lists of neighbours, and leaves the surface as it is. An edit takes memory only where a list or
-    /// a table has to grow, but for the first edit of a cell: it copies the cells of a topology that shares its mesh's.
+    /// A cell that comes or goes costs its put or its take in the tables of faces and of neighbours, and a vertex that
+    /// so comes to the surface or leaves it moves what stands behind it in the list of the surface. A split costs six
+    /// look-ups of faces and twelve searches in lists of neighbours, and leaves the surface as it is. An edit takes
+    /// memory only where a list or a table has to grow, but for the first edit of a cell: it copies the cells of a
+    /// topology that shares its mesh's.
     pub fn edit(&mut self, alloc: Global, edit: &Edit) -> Result<(), NoMemory>
         requires fits { Fits self.old edit.now }
-        ensures edited { OnOk result ((mesh : MeshView) → IsTopologyOf mesh self.old → IsTopologyOf (edited mesh edit.now) self.new) }
+        ensures edited { OnOk result ((mesh : MeshView) → IsTopologyOf mesh self.old
+            → IsTopologyOf (edited mesh edit.now) self.new) }
         ensures err { OnErr result (self.new ≡ self.old) }
     {
         let points = self.tables.points() as usize;

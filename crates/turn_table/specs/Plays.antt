@@ -28,7 +28,8 @@ module _ {T H E : Type 0} (g : Ghosts T H E) where
   -- the seat is served where its own ticket is
   abbrev pub looked : Step (Option T) → Sat T H E → ℕ → Sat T H E → Type 0
   looked st m r n =
-      (r ≡ ticket_of m.0.stage → (value : T) × (n ≡ (staged m.0 (Served r (g.history value)), (0, Some value) ∷ m.1)) × Finds g m.0 value) × (r ≢ ticket_of m.0.stage → n ≡ m)
+      (r ≡ ticket_of m.0.stage → (value : T) × (n ≡ (staged m.0 (Served r (g.history value)), (0, Some value) ∷ m.1))
+      × Finds g m.0 value) × (r ≢ ticket_of m.0.stage → n ≡ m)
 
   -- the turn ends, and the slot goes home
   abbrev pub gave : Step (Option T) → Sat T H E → ℕ → Sat T H E → Type 0
@@ -41,4 +42,5 @@ HasAll {H} {E} n v = (k : ℕ) → k < n → (k ≡ v.number) ⊎ ((p : Knowledg
 module _ {T H E : Type 0} (g : Ghosts T H E) where
   -- the value follows what the seat, and each one that it took in, had seen, and no number from n on made an entry
   abbrev pub Settles : ℕ → View H E → T → Type 0
-  Settles n v value = Finds g v value × ((p : Knowledge H E) → Has v.others p → Follows g p value) × ((k : ℕ) → n ≤ k → own_of g.maker k (g.history value) ≡ [])
+  Settles n v value = Finds g v value × ((p : Knowledge H E) → Has v.others p → Follows g p value)
+      × ((k : ℕ) → n ≤ k → own_of g.maker k (g.history value) ≡ [])

@@ -39,7 +39,16 @@ pub record Standing (H E : Type 0) : Type 0 where
   pub taken : List E
 
 abbrev pub standing_at : {H E : Type 0} → TableId → H → View H E → Standing H E
-standing_at table theme v = record { table = table; number = v.number; theme = theme; seen = v.seen; known = v.known; shown = v.shown; out = turn_of v.stage; taken = noted v.stage }
+standing_at table theme v = record {
+  table = table;
+  number = v.number;
+  theme = theme;
+  seen = v.seen;
+  known = v.known;
+  shown = v.shown;
+  out = turn_of v.stage;
+  taken = noted v.stage;
+}
 
 module _ {T H E : Type 0} where
   -- where the seat stands
@@ -60,7 +69,16 @@ module _ {T H E : Type 0} where
 
   -- the seat with this number has seen nothing, met no word and shown none, and its turn is not out
   abbrev pub IsNew : TableId → H → ℕ → KeptSeat T H E → Type 0
-  IsNew table theme n s = standing s ≡ record { table = table; number = n; theme = theme; seen = []; known = []; shown = []; out = None; taken = [] }
+  IsNew table theme n s = standing s ≡ record {
+    table = table;
+    number = n;
+    theme = theme;
+    seen = [];
+    known = [];
+    shown = [];
+    out = None;
+    taken = [];
+  }
 
   -- the seat with this number, whose turn is not out
   abbrev pub IsBack : TableId → ℕ → KeptSeat T H E → Type 0

@@ -72,7 +72,16 @@ module _ {H E : Type 0} where
 
   -- a seat with this number, which has seen nothing, and has given out this many numbers
   abbrev pub fresh : Option H → ℕ → ℕ → View H E
-  fresh theme number given = record { theme = theme; number = number; seen = []; known = []; shown = []; stage = Idle; given = given; others = [] }
+  fresh theme number given = record {
+    theme = theme;
+    number = number;
+    seen = [];
+    known = [];
+    shown = [];
+    stage = Idle;
+    given = given;
+    others = [];
+  }
 
   -- one more number is given out, and who gets it
   abbrev pub dealt : View H E → View H E
@@ -90,10 +99,12 @@ module _ {H E : Type 0} where
   abbrev pub spent : View H E
   spent = fresh None 0 0
 
--- the value has the theme of what was known, a history that begins with what was seen and has no further entry of that number, and each known word is true of it
+-- the value has the theme of what was known, a history that begins with what was seen and has no further entry of that
+-- number, and each known word is true of it
 module _ {T H E : Type 0} (g : Ghosts T H E) where
   abbrev pub Follows : Knowledge H E → T → Type 0
-  Follows p value = (p.theme ≡ Some (g.theme value)) × Extends g.maker p.number p.seen (g.history value) × ((word : ℕ) → Has p.known word → g.says (g.history value) word)
+  Follows p value = (p.theme ≡ Some (g.theme value)) × Extends g.maker p.number p.seen (g.history value)
+      × ((word : ℕ) → Has p.known word → g.says (g.history value) word)
 
   abbrev pub Finds : View H E → T → Type 0
   Finds v value = g.fits (g.theme value) (g.history value) × Follows (knowledge_of v) value

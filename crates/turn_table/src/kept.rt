@@ -28,5 +28,6 @@ pub trait Kept: Drop + Send {
     ghost says_nothing: { (t : Self.Theme) (h : List Self.Entry) → fits t h → says h 0 };
 
     // What a word says of a history stays true of each longer allowed one.
-    ghost says_longer: { (t : Self.Theme) (h more : List Self.Entry) (word : ℕ) → fits t (h ++ more) → says h word → says (h ++ more) word };
+    ghost says_longer: { (t : Self.Theme) (h more : List Self.Entry) (word : ℕ) → fits t (h ++ more) → says h word
+        → says (h ++ more) word };
 }

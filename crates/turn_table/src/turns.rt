@@ -41,8 +41,8 @@ pub struct Turns<T: Kept> {
 impl<T: Kept> Turns<T> {
     ghost use Rattle.turn_table.specs.Seats.{standing, is_out, table_of, IsNew, EachSeat, IsBack, GoesOn};
 
-    /// A lock of this value, and its seats, numbered from 0. Their theme is the value's.
-    /// After `NoMemory` the value is gone. It takes the memory of all later calls: a few words and a place for each seat.
+    /// A lock of this value, and its seats, numbered from 0. Their theme is the value's. After `NoMemory` the value is
+    /// gone. It takes the memory of all later calls: a few words and a place for each seat.
     pub fn make(alloc: Global, value: T, seats: u32) -> Result<(Turns<T>, SeatList<T>), NoMemory>
         requires seats { 0 < seats }
         requires empty { T.history value ≡ [] }
@@ -74,7 +74,10 @@ impl<T: Kept> Turns<T> {
     pub fn take<R: Wait>(&self, rt: &R, seat: &mut TurnSeat<T>) -> (T, Turn)
         requires table { (standing seat.old).table ≡ table_of self.now }
         requires rests { is_out seat.old ≡ false }
-        ensures out { standing seat.new ≡ record (standing seat.old) { out = Some result.1; taken = T.history result.0 } }
+        ensures out { standing seat.new ≡ record (standing seat.old) {
+          out = Some result.1;
+          taken = T.history result.0;
+        } }
         ensures fits { T.fits (T.theme result.0) (T.history result.0) }
         ensures value { GoesOn T.Kept (standing seat.old) result.0 }
     {

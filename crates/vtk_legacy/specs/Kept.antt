@@ -10,12 +10,14 @@ use Rattle.vtk_legacy.specs.declared.gathered.CellRow.{CellRow}
 use Rattle.vtk_legacy.specs.declared.gathered.Filling.{Filling}
 use Rattle.vtk_legacy.specs.MeshText.{◌>>=◌, Read, Row, token, tested, known_type, size_fits, has_twins}
 
--- a cell whose type hasn't come: how many points it has, and the tetrahedron that it can be, which is one if it has four different points
+-- a cell whose type hasn't come: how many points it has, and the tetrahedron that it can be, which is one if it has
+-- four different points
 pub record Waiting : Type 0 where
   pub size : ℕ
   pub cell : Option Corners
 
--- the form of the cells, how many points the text says it has, the points, how many points the cells have whose numbers are still to come, the cells whose types are still to come, and the tetrahedra among those whose types came
+-- the form of the cells, how many points the text says it has, the points, how many points the cells have whose numbers
+-- are still to come, the cells whose types are still to come, and the tetrahedra among those whose types came
 pub record Parts : Type 0 where
   pub form : CellForm
   pub number : ℕ
@@ -28,22 +30,64 @@ abbrev pub nothing_in : CellForm → Parts
 nothing_in f = record { form = f; number = 0; points = []; sizes = []; rows = []; cells = [] }
 
 abbrev pub with_form : CellForm → Parts → Parts
-with_form f got = record { form = f; number = got.number; points = got.points; sizes = got.sizes; rows = got.rows; cells = got.cells }
+with_form f got = record {
+  form = f;
+  number = got.number;
+  points = got.points;
+  sizes = got.sizes;
+  rows = got.rows;
+  cells = got.cells;
+}
 
 abbrev pub with_number : ℕ → Parts → Parts
-with_number n got = record { form = got.form; number = n; points = got.points; sizes = got.sizes; rows = got.rows; cells = got.cells }
+with_number n got = record {
+  form = got.form;
+  number = n;
+  points = got.points;
+  sizes = got.sizes;
+  rows = got.rows;
+  cells = got.cells;
+}
 
 abbrev pub with_points : List Place → Parts → Parts
-with_points ps got = record { form = got.form; number = got.number; points = got.points ++ ps; sizes = got.sizes; rows = got.rows; cells = got.cells }
+with_points ps got = record {
+  form = got.form;
+  number = got.number;
+  points = got.points ++ ps;
+  sizes = got.sizes;
+  rows = got.rows;
+  cells = got.cells;
+}
 
 abbrev pub with_sizes : List ℕ → Parts → Parts
-with_sizes ss got = record { form = got.form; number = got.number; points = got.points; sizes = got.sizes ++ ss; rows = got.rows; cells = got.cells }
+with_sizes ss got = record {
+  form = got.form;
+  number = got.number;
+  points = got.points;
+  sizes = got.sizes ++ ss;
+  rows = got.rows;
+  cells = got.cells;
+}
 
 abbrev pub with_rows : List Waiting → Parts → Parts
-with_rows rs got = record { form = got.form; number = got.number; points = got.points; sizes = got.sizes; rows = got.rows ++ rs; cells = got.cells }
+with_rows rs got = record {
+  form = got.form;
+  number = got.number;
+  points = got.points;
+  sizes = got.sizes;
+  rows = got.rows ++ rs;
+  cells = got.cells;
+}
 
 abbrev pub with_cells : List (Option Corners) → Parts → Parts
-with_cells cs got = record { form = got.form; number = got.number; points = got.points; sizes = got.sizes; rows = got.rows; cells = got.cells ++ cs }
+with_cells cs got = record {
+  form = got.form;
+  number = got.number;
+  points = got.points;
+  sizes = got.sizes;
+  rows = got.rows;
+  cells = got.cells ++ cs;
+}
 
 -- ---- a cell that is read: how many points it has, and the first four
 
@@ -115,7 +159,14 @@ passed (zero ∷ sizes) = bare 0 ∷ passed sizes
 passed (suc n ∷ sizes) = []
 
 abbrev pub with_next : Parts → Parts
-with_next got = record { form = got.form; number = got.number; points = got.points; sizes = behind_next got.sizes; rows = got.rows ++ passed got.sizes; cells = got.cells }
+with_next got = record {
+  form = got.form;
+  number = got.number;
+  points = got.points;
+  sizes = behind_next got.sizes;
+  rows = got.rows ++ passed got.sizes;
+  cells = got.cells;
+}
 
 -- a row that begins
 abbrev pub fresh : ℕ → Filling
@@ -151,7 +202,14 @@ begin_from (p ∷ ps) sizes = passed sizes ++ put_from (fresh (next_size sizes))
 
 -- these rows were filled, and no size is left
 abbrev pub with_filled : List Waiting → Parts → Parts
-with_filled rs got = record { form = got.form; number = got.number; points = got.points; sizes = []; rows = got.rows ++ rs; cells = got.cells }
+with_filled rs got = record {
+  form = got.form;
+  number = got.number;
+  points = got.points;
+  sizes = [];
+  rows = got.rows ++ rs;
+  cells = got.cells;
+}
 
 -- ---- types
 
@@ -163,7 +221,8 @@ first_row (row ∷ rows) = row
 abbrev pub typed_kept : Waiting → Token × Left → Read ℕ
 typed_kept row t =
     let type = digits_value 10 t.0.text in
-    tested (is_numeral t.0.text) (known_type type) (size_fits type row.size) (not ((type == 10) && is_none row.cell)) type t
+    tested (is_numeral t.0.text) (known_type type) (size_fits type row.size)
+    (not ((type == 10) && is_none row.cell)) type t
 
 -- a tetrahedron is one more cell of the mesh
 abbrev pub with_kept : ℕ → Option Corners → List (Option Corners) × Left → Read (List (Option Corners))
@@ -179,10 +238,24 @@ types_left (suc k) rows l = do
 
 -- the first row has its type: one more cell, or none
 abbrev pub with_first_kept : Parts → Parts
-with_first_kept got = record { form = got.form; number = got.number; points = got.points; sizes = got.sizes; rows = drop 1 got.rows; cells = got.cells ++ (first_row got.rows).cell ∷ [] }
+with_first_kept got = record {
+  form = got.form;
+  number = got.number;
+  points = got.points;
+  sizes = got.sizes;
+  rows = drop 1 got.rows;
+  cells = got.cells ++ (first_row got.rows).cell ∷ [];
+}
 
 abbrev pub without_first : Parts → Parts
-without_first got = record { form = got.form; number = got.number; points = got.points; sizes = got.sizes; rows = drop 1 got.rows; cells = got.cells }
+without_first got = record {
+  form = got.form;
+  number = got.number;
+  points = got.points;
+  sizes = got.sizes;
+  rows = drop 1 got.rows;
+  cells = got.cells;
+}
 
 -- each number is below n, the number of points
 abbrev pub AreBelow : ℕ → List ℕ → Type 0

@@ -1,4 +1,5 @@
--- How a reader works: what comes of the rest of a text, from each of its stages. A text's meaning is defined without it, in MeshText.
+-- How a reader works: what comes of the rest of a text, from each of its stages. A text's meaning is defined without
+-- it, in MeshText.
 use Rattle.std.specs.Prelude.{◌≡◌, ℕ, suc, ◌+◌, ◌-◌, ◌*◌, ◌<◌, ◌≤◌, ◌==◌, Bool, true, false, if◌then◌else◌, List, [], ◌∷◌, length, map, Option, Some, None, Result, Ok, Err, ℤ, codes}
 use Rattle.mesh_base.specs.Mesh.{MeshView}
 use Rattle.oct_text.specs.Rest.{Left, Token, next_token, Rest, continued, MayCome}
@@ -79,11 +80,13 @@ in_type_word got l = expect (codes "cell_types") kinds.Keyword l >>= in_type_cou
 
 -- so many point numbers are left, and this row is in work
 unfoldable pub in_filling : ℕ → Filling → Parts → Left → Outcome
-in_filling k filling got l = indices got.number k l >>= λ ps. blocks ps.1 >>= in_type_word (with_filled (put_from filling ps.0 got.sizes) got)
+in_filling k filling got l = indices got.number k l >>= λ ps.
+    blocks ps.1 >>= in_type_word (with_filled (put_from filling ps.0 got.sizes) got)
 
 -- all of so many point numbers are left
 unfoldable pub in_numbers : ℕ → Parts → Left → Outcome
-in_numbers k got l = indices got.number k l >>= λ ps. blocks ps.1 >>= in_type_word (with_filled (begin_from ps.0 got.sizes) got)
+in_numbers k got l = indices got.number k l >>= λ ps.
+    blocks ps.1 >>= in_type_word (with_filled (begin_from ps.0 got.sizes) got)
 
 unfoldable pub in_number_type : ℕ → Parts → Left → Outcome
 in_number_type b got l = numeric kinds.Keyword l >>= in_numbers b got
@@ -93,7 +96,8 @@ in_connectivity b got l = expect (codes "connectivity") kinds.Keyword l >>= in_n
 
 -- so many offsets are left
 unfoldable pub in_offsets : ℕ → Bool → ℕ → ℕ → Parts → Left → Outcome
-in_offsets k first before b got l = offsets k first before b l >>= λ os. blocks os.1 >>= in_connectivity b (with_sizes (offset_sizes first before os.0) got)
+in_offsets k first before b got l = offsets k first before b l >>= λ os.
+    blocks os.1 >>= in_connectivity b (with_sizes (offset_sizes first before os.0) got)
 
 unfoldable pub in_offset_type : ℕ → ℕ → Parts → Left → Outcome
 in_offset_type a b got l = numeric kinds.Keyword l >>= in_offsets a true 0 b got
@@ -103,7 +107,8 @@ in_offset_word a b got l = expect (codes "offsets") kinds.Keyword l >>= in_offse
 
 abbrev pub or_offsets : Parts → Option (Token × Left) → Left → Outcome
 or_offsets got None l = blocks l >>= in_type_word got
-or_offsets got (Some t) l = if word_is t.0.text (codes "offsets") then in_offset_type 0 0 got t.1 else (blocks l >>= in_type_word got)
+or_offsets got (Some t) l = if word_is t.0.text (codes "offsets") then in_offset_type 0 0 got t.1
+    else (blocks l >>= in_type_word got)
 
 unfoldable pub in_maybe_offsets : Parts → Left → Outcome
 in_maybe_offsets got l = or_offsets got (next_token l) l
@@ -124,7 +129,8 @@ in_offset_count got l = count 4000001 l >>= λ a. in_number_count a.0 got a.1
 
 -- so many cells are left
 unfoldable pub in_heads : ℕ → ℕ → ℕ → Parts → Left → Outcome
-in_heads m room place got l = counted_rows got.number m room place l >>= λ rs. blocks rs.1 >>= in_type_word (with_rows (map kept rs.0) got)
+in_heads m room place got l = counted_rows got.number m room place l >>= λ rs.
+    blocks rs.1 >>= in_type_word (with_rows (map kept rs.0) got)
 
 -- so many point numbers of this cell are left
 unfoldable pub in_row : CellRow → ℕ → ℕ → ℕ → ℕ → Parts → Left → Outcome
@@ -260,25 +266,30 @@ taking_between s got t =
     else taking_section s got t
 
 abbrev pub taking_maybe : Parts → Token × Left → Outcome
-taking_maybe got t = if word_is t.0.text (codes "offsets") then in_offset_type 0 0 got t.1 else taking_between section.Types got t
+taking_maybe got t = if word_is t.0.text (codes "offsets") then in_offset_type 0 0 got t.1
+    else taking_between section.Types got t
 
 -- a count of points begins a row
 abbrev pub taking_head : ℕ → ℕ → ℕ → Parts → Token × Left → Outcome
-taking_head m room place got t = head_taken room t >>= λ c. in_row (empty_row c.0) c.0 m (room - (1 + c.0)) place got c.1
+taking_head m room place got t = head_taken room t >>= λ c.
+    in_row (empty_row c.0) c.0 m (room - (1 + c.0)) place got c.1
 
 -- the row gets one number, and so many come after it
 abbrev pub with_point : CellRow → ℕ → ℕ → CellRow
 with_point row more p = with_corner row (row.count - more - 1) p
 
 abbrev pub taking_cell_point : CellRow → ℕ → ℕ → ℕ → ℕ → Parts → Token × Left → Outcome
-taking_cell_point row more m room place got t = indexed got.number t >>= λ p. in_row (with_point row more p.0) more m room place got p.1
+taking_cell_point row more m room place got t = indexed got.number t >>= λ p.
+    in_row (with_point row more p.0) more m room place got p.1
 
 abbrev pub taking_offset : ℕ → Bool → ℕ → ℕ → Parts → Token × Left → Outcome
 taking_offset more first before b got t =
-    offset_taken first (more == 0) before b t >>= λ o. in_offsets more false o.0 b (if first then got else with_sizes ((o.0 - before) ∷ []) got) o.1
+    offset_taken first (more == 0) before b t >>= λ o.
+    in_offsets more false o.0 b (if first then got else with_sizes ((o.0 - before) ∷ []) got) o.1
 
 abbrev pub taking_number : ℕ → Filling → Parts → Token × Left → Outcome
-taking_number more filling got t = indexed got.number t >>= λ p. in_filling more (filling_after filling p.0 got.sizes) (got_after filling got) p.1
+taking_number more filling got t = indexed got.number t >>= λ p.
+    in_filling more (filling_after filling p.0 got.sizes) (got_after filling got) p.1
 
 abbrev pub with_type : ℕ → Parts → Parts
 with_type type got = if type == 10 then with_first_kept got else without_first got
@@ -301,7 +312,8 @@ taking stage.PointCount got t = count_taken most_points t >>= λ n. in_point_typ
 taking (stage.PointType n) got t = numeric_taken kinds.Keyword t >>= in_places n got
 taking (stage.PointX more) got t = coordinate_taken t >>= λ x. in_y more x.0 got x.1
 taking (stage.PointY more x) got t = coordinate_taken t >>= λ y. in_z more x y.0 got y.1
-taking (stage.PointZ more x y) got t = coordinate_taken t >>= λ z. in_places more (with_points ((x, y, z.0) ∷ []) got) z.1
+taking (stage.PointZ more x y) got t = coordinate_taken t >>= λ z.
+    in_places more (with_points ((x, y, z.0) ∷ []) got) z.1
 taking stage.CellCount got t = count_taken most_cells t >>= λ m. in_cell_size m.0 got m.1
 taking (stage.CellSize m) got t = cell_size_taken m got t
 taking (stage.CellHead more room place) got t = taking_head more room place got t
@@ -351,7 +363,8 @@ at_end other got place = truncated place
 
 -- Whatever bytes may come, the rest of the text decides as it did before.
 abbrev pub Keeps : Stage → Parts → Rest → Stage → Parts → Rest → Type 0
-Keeps old got r new got' r' = (more : List ℕ) → MayCome r more → goes_on old got (continued r more) ≡ goes_on new got' (continued r' more)
+Keeps old got r new got' r' = (more : List ℕ) → MayCome r more
+    → goes_on old got (continued r more) ≡ goes_on new got' (continued r' more)
 
 -- what comes, if no more bytes come
 abbrev pub IsSpent : Stage → Parts → Rest → Type 0
@@ -368,7 +381,8 @@ FaultsWith old got r e = (more : List ℕ) → MayCome r more → IsFault e (goe
 
 -- One step: whether there is more to do, or a fault.
 abbrev pub Advances : Stage → Parts → Rest → Result Bool MeshFault → Stage → Parts → Rest → Type 0
-Advances old got r (Ok true) new got' r' = Keeps old got r new got' r' × (length r'.bytes < length r.bytes) × SameText r r'
+Advances old got r (Ok true) new got' r' = Keeps old got r new got' r' × (length r'.bytes < length r.bytes)
+    × SameText r r'
 Advances old got r (Ok false) new got' r' = Keeps old got r new got' r' × IsSpent new got' r' × SameText r r'
 Advances old got r (Err e) new got' r' = FaultsWith old got r e × SameText r r'
 
@@ -390,7 +404,8 @@ Steps old got r (Ok false) new got' r' = (got' ≡ got) × (r' ≡ r)
 Steps old got r (Err e) new got' r' = FaultsWith old got r e × SameText r r'
 
 -- One part was read, on whose value the new stage depends, or none and nothing has changed, or there is a fault.
-abbrev pub StepsTo : {X : Type 0} → Stage → Parts → Rest → (X → Stage) → Result (Option X) MeshFault → Parts → Rest → Type 0
+abbrev pub StepsTo : {X : Type 0} → Stage → Parts → Rest → (X → Stage) → Result (Option X) MeshFault → Parts → Rest
+    → Type 0
 StepsTo old got r new (Ok (Some x)) got' r' = Passes old got r (new x) got' r'
 StepsTo old got r new (Ok None) got' r' = (got' ≡ got) × (r' ≡ r)
 StepsTo old got r new (Err e) got' r' = FaultsWith old got r e × SameText r r'

@@ -1,9 +1,10 @@
 -- What a mesh text says: the mesh, or its first fault with its kind and byte place.
 --
--- A mesh text is an unstructured grid in the VTK legacy file format ("VTK file formats", "Simple Legacy Formats"). Its rules come one after
--- another. Each reads from a place on, and gives what it read and what is left, or its first fault; the first rule with a fault decides.
--- Words are compared without regard to ASCII case, and tokens stand between blanks of any kind, so that lines matter only for the version,
--- the title and METADATA. The limits, which cells are a mesh, and the end of METADATA are this project's own.
+-- A mesh text is an unstructured grid in the VTK legacy file format ("VTK file formats", "Simple Legacy Formats"). Its
+-- rules come one after another. Each reads from a place on, and gives what it read and what is left, or its first
+-- fault; the first rule with a fault decides. Words are compared without regard to ASCII case, and tokens stand between
+-- blanks of any kind, so that lines matter only for the version, the title and METADATA. The limits, which cells are a
+-- mesh, and the end of METADATA are this project's own.
 use Rattle.std.specs.Prelude.{ℕ, zero, suc, ◌+◌, ◌-◌, ◌*◌, Bool, true, false, not, ◌||◌, ◌&&◌, ◌==◌, nat_lt, nat_le, if◌then◌else◌, List, [], ◌∷◌, length, Option, Some, None, Result, Ok, Err, ℤ, codes, slice_range}
 use Rattle.std.specs.Str.Parse.{digits_value}
 use Rattle.mesh_base.specs.Mesh.{MeshView, Corners, corners_of}
@@ -54,7 +55,8 @@ field l = do
 -- how many bytes there are up to the end of the first line of blanks, where `blank` says whether the line so far is
 abbrev pub blank_line_len : Bool → List ℕ → ℕ
 blank_line_len blank [] = 0
-blank_line_len blank (b ∷ bs) = 1 + (if is_lf b then (if blank then 0 else blank_line_len true bs) else blank_line_len (blank && is_blank b) bs)
+blank_line_len blank (b ∷ bs) = 1 + (if is_lf b then (if blank then 0 else blank_line_len true bs)
+    else blank_line_len (blank && is_blank b) bs)
 
 abbrev pub after_blank_line : Left → Left
 after_blank_line l = beyond (blank_line_len true l.bytes) l
@@ -88,7 +90,8 @@ versioned l (Some f) = Ok (f, after_line l)
 versioned l None = Err (fault kinds.Version 23)
 
 abbrev pub version_front : Left → LineFront → Read CellForm
-version_front l (IsLine line) = if has_magic line then versioned l (version_form (behind_magic line)) else Err (fault kinds.Magic 0)
+version_front l (IsLine line) = if has_magic line then versioned l (version_form (behind_magic line))
+    else Err (fault kinds.Magic 0)
 version_front l IsLong = Err (fault kinds.Magic 0)
 version_front l NoLine = Err (fault kinds.Truncated (end_of l))
 
@@ -201,10 +204,12 @@ counted_cells n l = do
 
 -- an offset is at least the one before it and at most b; the first is 0, the last is b
 abbrev pub offset_fits : Bool → Bool → ℕ → ℕ → ℕ → Bool
-offset_fits first last before b o = (if first then o == 0 else nat_le before o) && nat_le o b && (if last then o == b else true)
+offset_fits first last before b o = (if first then o == 0 else nat_le before o) && nat_le o b
+    && (if last then o == b else true)
 
 abbrev pub offset_sized : Bool → Bool → ℕ → ℕ → Token × Left → ℕ × Left → Read ℕ
-offset_sized first last before b t o = if offset_fits first last before b o.0 then Ok o else Err (fault kinds.Size t.0.place)
+offset_sized first last before b t o = if offset_fits first last before b o.0 then Ok o
+    else Err (fault kinds.Size t.0.place)
 
 abbrev pub offset_taken : Bool → Bool → ℕ → ℕ → Token × Left → Read ℕ
 offset_taken first last before b t = count_taken most_count t >>= offset_sized first last before b t
@@ -302,7 +307,8 @@ known_type type = nat_lt 0 type && nat_lt type 11
 abbrev pub typed_as : ℕ → Corners → Token × Left → Read ℕ
 typed_as size corners t =
     let type = digits_value 10 t.0.text in
-    tested (is_numeral t.0.text) (known_type type) (size_fits type size) (not ((type == 10) && has_twins corners)) type t
+    tested (is_numeral t.0.text) (known_type type) (size_fits type size)
+    (not ((type == 10) && has_twins corners)) type t
 
 abbrev pub typed : Row → Token × Left → Read ℕ
 typed row = typed_as (length row) (corners_of row)
@@ -337,7 +343,8 @@ cell_types rows l = do
 
 abbrev pub ends : MeshView → Option (Token × Left) → Result MeshView Fault
 ends mesh None = Ok mesh
-ends mesh (Some t) = if word_is t.0.text (codes "point_data") || word_is t.0.text (codes "cell_data") then Ok mesh else Err (fault kinds.Keyword t.0.place)
+ends mesh (Some t) = if word_is t.0.text (codes "point_data")
+    || word_is t.0.text (codes "cell_data") then Ok mesh else Err (fault kinds.Keyword t.0.place)
 
 abbrev pub attributes : MeshView → Left → Result MeshView Fault
 attributes mesh l = do

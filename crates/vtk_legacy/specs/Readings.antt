@@ -1,4 +1,5 @@
--- What single tokens say, and the first fault where one does not fit. A reader goes on from a place, and gives what it read and what is left.
+-- What single tokens say, and the first fault where one does not fit. A reader goes on from a place, and gives what it
+-- read and what is left.
 use Rattle.std.specs.Prelude.{ℕ, ◌-◌, ◌^◌, if◌then◌else◌, List, ◌∷◌, Option, Some, None, Result, Ok, Err, ℤ}
 use Rattle.oct_text.specs.Rest.{Left, Token, next_token, end_of}
 use Rattle.oct_text.specs.Numbers.{count_of, coordinate_of}

@@ -37,7 +37,8 @@ form_of major minor =
 -- the form of the cells that a version stands for
 unfoldable pub version_form : List ℕ → Option CellForm
 version_form text =
-    if spells_version text then form_of (digits_value 10 (major_part text)) (digits_value 10 (minor_part text)) else None
+    if spells_version text then form_of (digits_value 10 (major_part text)) (digits_value 10 (minor_part text))
+    else None
 
 -- the first line begins with these 23 bytes, in this case of letters
 unfoldable pub has_magic : List ℕ → Bool

@@ -16,7 +16,8 @@ is_unsigned text =
     || word_is text (codes "unsigned_int") || word_is text (codes "unsigned_long")
 
 unfoldable pub is_signed : List ℕ → Bool
-is_signed text = word_is text (codes "char") || word_is text (codes "short") || word_is text (codes "int") || word_is text (codes "long")
+is_signed text = word_is text (codes "char") || word_is text (codes "short") || word_is text (codes "int")
+    || word_is text (codes "long")
 
 unfoldable pub is_real : List ℕ → Bool
 is_real text = word_is text (codes "float") || word_is text (codes "double")

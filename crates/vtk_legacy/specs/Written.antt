@@ -40,7 +40,8 @@ type_lines cells = (codes "CELL_TYPES" ∷ decimal (length cells) ∷ []) ∷ ma
 
 -- all lines, each as its words: of the cells only the live ones, in their order
 abbrev pub mesh_lines : MeshView → List (List (List ℕ))
-mesh_lines mesh = first_lines ++ (point_lines mesh.points ++ (cell_lines (live mesh.cells) ++ type_lines (live mesh.cells)))
+mesh_lines mesh = first_lines ++ (point_lines mesh.points
+    ++ (cell_lines (live mesh.cells) ++ type_lines (live mesh.cells)))
 
 -- the text that is written of a mesh
 unfoldable pub mesh_spelling : MeshView → List ℕ

@@ -44,7 +44,8 @@ pub fn block_step(
     place: u64,
     text: &[u8],
 ) -> Result<Stage, MeshFault>
-    ensures { (got : Parts) → Moves (λ after. then_section section got (taking_block block (token_taken place text.now, after))) result got }
+    ensures { (got : Parts) → Moves (λ after. then_section section got
+        (taking_block block (token_taken place text.now, after))) result got }
 {
     match block {
         Block::Name => {

@@ -55,7 +55,8 @@ fn row_left(
 /// The size of all cells.
 #[tactic(auto, unfolding(crate::specs::Machine::goes_on, crate::specs::Machine::taking))]
 pub fn size_step(cells: u32, place: u64, text: &[u8]) -> Result<Stage, MeshFault>
-    ensures { (got : Parts) → Moves (λ after. taking (Stage.CellSize cells) got (token_taken place text.now, after)) result got }
+    ensures { (got : Parts) → Moves (λ after. taking (Stage.CellSize cells) got
+        (token_taken place text.now, after)) result got }
 {
     let room = count_at(place, text, COUNT_MAX)?;
     cells_left(cells, room, place)
@@ -71,7 +72,8 @@ pub fn head_step(
     place: u64,
     text: &[u8],
 ) -> Result<Stage, MeshFault>
-    ensures { Moves (λ after. taking (Stage.CellHead more room size_place) got.old (token_taken place text.now, after)) result got.new }
+    ensures { Moves (λ after. taking (Stage.CellHead more room size_place) got.old
+        (token_taken place text.now, after)) result got.new }
 {
     let count = count_at(place, text, COUNT_MAX)?;
     if room < 1 + count {
@@ -94,7 +96,8 @@ pub fn cell_point_step(
     place: u64,
     text: &[u8],
 ) -> Result<Stage, MeshFault>
-    ensures { Moves (λ after. taking (Stage.CellPoint row more cells room size_place) got.old (token_taken place text.now, after)) result got.new }
+    ensures { Moves (λ after. taking (Stage.CellPoint row more cells room size_place) got.old
+        (token_taken place text.now, after)) result got.new }
 {
     let point = index_at(place, text, got.number())?;
     let at = row.count.saturating_sub(more).saturating_sub(1);

@@ -68,7 +68,14 @@ impl Model for Gathered {
 
     ghost Value = { Parts };
 
-    ghost view = { λ g. record { form = g.form; number = g.number; points = g.points.items; sizes = drop g.begun g.sizes.items; rows = g.table.waiting; cells = g.table.done } };
+    ghost view = { λ g. record {
+      form = g.form;
+      number = g.number;
+      points = g.points.items;
+      sizes = drop g.begun g.sizes.items;
+      rows = g.table.waiting;
+      cells = g.table.done;
+    } };
 
     ghost invariant = { λ g. g.begun ≤ length g.sizes.items };
 }
@@ -205,7 +212,8 @@ impl Gathered {
 
     /// The first cell that waits is finished, if it has four different points. Says whether it has.
     pub fn keep_first(&mut self) -> bool
-        ensures yes { IsTrue result → (self.new ≡ with_first_kept self.old) × ((first_row self.old.rows).size ≡ 4) × IsSome (first_row self.old.rows).cell }
+        ensures yes { IsTrue result → (self.new ≡ with_first_kept self.old) × ((first_row self.old.rows).size ≡ 4)
+            × IsSome (first_row self.old.rows).cell }
         ensures no { IsFalse result → (self.new ≡ self.old) × ((first_row self.old.rows).cell ≡ None) }
     {
         self.table.keep_first()

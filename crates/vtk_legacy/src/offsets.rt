@@ -14,7 +14,8 @@ use crate::values::{COUNT_MAX, count_at, fault, index_at};
 /// How many point numbers there are, behind so many offsets.
 #[tactic(auto, unfolding(crate::specs::Machine::goes_on, crate::specs::Machine::taking))]
 pub fn number_count_step(offsets: u32, place: u64, text: &[u8]) -> Result<Stage, MeshFault>
-    ensures { (got : Parts) → Moves (λ after. taking (Stage.NumberCount offsets) got (token_taken place text.now, after)) result got }
+    ensures { (got : Parts) → Moves (λ after. taking (Stage.NumberCount offsets) got
+        (token_taken place text.now, after)) result got }
 {
     let numbers = count_at(place, text, COUNT_MAX)? as u32;
     if offsets > 0 {
@@ -65,7 +66,8 @@ pub fn offset_step(
     place: u64,
     text: &[u8],
 ) -> Result<Stage, MeshFault>
-    ensures { Moves (λ after. taking (Stage.Offset more first before numbers) got.old (token_taken place text.now, after)) result got.new }
+    ensures { Moves (λ after. taking (Stage.Offset more first before numbers) got.old
+        (token_taken place text.now, after)) result got.new }
 {
     let offset = count_at(place, text, COUNT_MAX)? as u32;
     if !is_offset(first, more == 0, before, numbers, offset) {
@@ -121,7 +123,8 @@ pub fn number_step(
     place: u64,
     text: &[u8],
 ) -> Result<Stage, MeshFault>
-    ensures { Moves (λ after. taking (Stage.Number more filling) got.old (token_taken place text.now, after)) result got.new }
+    ensures { Moves (λ after. taking (Stage.Number more filling) got.old
+        (token_taken place text.now, after)) result got.new }
 {
     let point = index_at(place, text, got.number())?;
     let after = got.fill(filling, point)?;

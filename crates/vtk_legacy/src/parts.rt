@@ -7,8 +7,8 @@ ghost use Rattle.vtk_legacy.specs.Written.{points_spelling, count_spelling, cell
 use crate::writer::{live_count, put_cells, put_count, put_front, put_types};
 use mesh_base::{Cell, NoMemory, Point};
 
-/// Appends the first part of a mesh text: all that stands in front of the cells. `write_count` is next. After an error `out` holds
-/// what it held. It goes once over the points.
+/// Appends the first part of a mesh text: all that stands in front of the cells. `write_count` is next. After an error
+/// `out` holds what it held. It goes once over the points.
 pub fn write_points(out: &mut Vec<u8>, points: &[Point]) -> Result<(), NoMemory>
     ensures ok { OnOk result (out.new.items ≡ out.old.items ++ points_spelling points.now) }
     ensures err { OnErr result (out.new.items ≡ out.old.items) }
@@ -30,8 +30,8 @@ pub fn count_live(cells: &[Option<Cell>]) -> usize
     live_count(cells)
 }
 
-/// Appends the second part: how many live cells the mesh has. The cells come next, by one or more calls of `write_cells`. After an
-/// error `out` holds what it held.
+/// Appends the second part: how many live cells the mesh has. The cells come next, by one or more calls of
+/// `write_cells`. After an error `out` holds what it held.
 pub fn write_count(out: &mut Vec<u8>, live: usize) -> Result<(), NoMemory>
     requires { live < 2 ^ 32 }
     ensures ok { OnOk result (out.new.items ≡ out.old.items ++ count_spelling live) }
@@ -45,8 +45,8 @@ pub fn write_count(out: &mut Vec<u8>, live: usize) -> Result<(), NoMemory>
     written
 }
 
-/// Appends the live ones of these cells, which are all cells of the mesh or the next chunk of them. `write_types` is next behind the
-/// last. After an error `out` holds what it held. It goes once over the cells.
+/// Appends the live ones of these cells, which are all cells of the mesh or the next chunk of them. `write_types` is
+/// next behind the last. After an error `out` holds what it held. It goes once over the cells.
 pub fn write_cells(out: &mut Vec<u8>, cells: &[Option<Cell>]) -> Result<(), NoMemory>
     ensures ok { OnOk result (out.new.items ≡ out.old.items ++ cells_spelling cells.now) }
     ensures err { OnErr result (out.new.items ≡ out.old.items) }

@@ -1,8 +1,9 @@
 //! Parts that are spelled plainly: a short cut in front of the steps by single tokens.
 //!
-//! Each call looks ahead and takes a whole part (a point, a cell of four points, the type of a tetrahedron, an offset or a point
-//! number) where the steps by tokens would take it with the same outcome. A part in another spelling, one that is faulty or not
-//! there as a whole, and the last part of its section are left to those steps: so they alone tell faults and ends of sections.
+//! Each call looks ahead and takes a whole part (a point, a cell of four points, the type of a tetrahedron, an offset
+//! or a point number) where the steps by tokens would take it with the same outcome. A part in another spelling, one
+//! that is faulty or not there as a whole, and the last part of its section are left to those steps: so they alone tell
+//! faults and ends of sections.
 ghost use Rattle.std.specs.Prelude.{◌≡◌, ℕ, ◌-◌, ◌<◌, length, IfSome, IsTrue, IsFalse, false};
 ghost use Rattle.vtk_legacy.specs.Kept.{AreBelow};
 ghost use Rattle.vtk_legacy.specs.Machine.{Steps, StepsTo, Passes, PassesTo};
@@ -68,7 +69,8 @@ fn take_row(
     room: u64,
 ) -> Result<bool, MeshFault>
     requires { 0 < more }
-    ensures { (place : ℕ) → Steps (Stage.CellHead more room place) got.old tokens.old result (Stage.CellHead (more - 1) (room - 5) place) got.new tokens.new }
+    ensures { (place : ℕ) → Steps (Stage.CellHead more room place) got.old tokens.old result
+        (Stage.CellHead (more - 1) (room - 5) place) got.new tokens.new }
 {
     if room < 5 {
         return Ok(false);
@@ -88,8 +90,8 @@ fn take_row(
     Ok(true)
 }
 
-/// Takes cells as long as one of four points is ahead, but for the last. Where none is, this costs one look ahead, which ends
-/// at the count where that isn't four.
+/// Takes cells as long as one of four points is ahead, but for the last. Where none is, this costs one look ahead,
+/// which ends at the count where that isn't four.
 pub fn take_rows(
     tokens: &mut Tokens,
     got: &mut Gathered,
@@ -122,7 +124,8 @@ pub fn take_rows(
 // Takes the type of a tetrahedron, where that is ahead and fits, and says whether it was.
 fn take_type(tokens: &mut Tokens, got: &mut Gathered, more: u32) -> bool
     requires { 0 < more }
-    ensures yes { IsTrue result → Passes (Stage.CellType more) got.old tokens.old (Stage.CellType (more - 1)) got.new tokens.new }
+    ensures yes { IsTrue result → Passes (Stage.CellType more) got.old tokens.old
+        (Stage.CellType (more - 1)) got.new tokens.new }
     ensures no { IsFalse result → (got.new ≡ got.old) × (tokens.new ≡ tokens.old) }
 {
     let Some(ahead) = tokens.count_ahead() else {
@@ -161,7 +164,8 @@ fn take_offset(
     numbers: u32,
 ) -> Result<Option<u32>, MeshFault>
     requires { 0 < more }
-    ensures { StepsTo (Stage.Offset more false before numbers) got.old tokens.old (λ offset. Stage.Offset (more - 1) false offset numbers) result got.new tokens.new }
+    ensures { StepsTo (Stage.Offset more false before numbers) got.old tokens.old
+        (λ offset. Stage.Offset (more - 1) false offset numbers) result got.new tokens.new }
 {
     let Some(ahead) = tokens.count_ahead() else {
         return Ok(None);
@@ -217,7 +221,8 @@ fn take_number(
     filling: Filling,
 ) -> Result<Option<Filling>, MeshFault>
     requires { 0 < more }
-    ensures { StepsTo (Stage.Number more filling) got.old tokens.old (λ after. Stage.Number (more - 1) after) result got.new tokens.new }
+    ensures { StepsTo (Stage.Number more filling) got.old tokens.old
+        (λ after. Stage.Number (more - 1) after) result got.new tokens.new }
 {
     let Some(ahead) = tokens.count_ahead() else {
         return Ok(None);

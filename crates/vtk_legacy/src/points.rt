@@ -45,7 +45,8 @@ pub fn z_step(
     place: u64,
     text: &[u8],
 ) -> Result<Stage, MeshFault>
-    ensures { Moves (λ after. taking (Stage.PointZ more x y) got.old (token_taken place text.now, after)) result got.new }
+    ensures { Moves (λ after. taking (Stage.PointZ more x y) got.old
+        (token_taken place text.now, after)) result got.new }
 {
     let z = coordinate_at(place, text)?;
     match Point::new(x.value(), y.value(), z.value()) {

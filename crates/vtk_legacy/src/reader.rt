@@ -134,9 +134,10 @@ fn close(mut tokens: Tokens, mut stage: Stage, mut got: Gathered) -> Result<Gath
 
 /// A reader of a mesh text that comes in pieces, cut anywhere.
 ///
-/// It keeps the mesh as far as it was read: 20 bytes for each cell of the text, in which the cell is finished when its type comes, 4
-/// more for one that isn't of four different points, and 4 for each offset. Of the text itself it keeps the token or line in work:
-/// nothing grows by a count that the text states before its numbers have come. Behind the first attributes nothing is kept.
+/// It keeps the mesh as far as it was read: 20 bytes for each cell of the text, in which the cell is finished when its
+/// type comes, 4 more for one that isn't of four different points, and 4 for each offset. Of the text itself it keeps
+/// the token or line in work: nothing grows by a count that the text states before its numbers have come. Behind the
+/// first attributes nothing is kept.
 #[derive(Drop)]
 pub struct MeshReader {
     tokens: Tokens,
@@ -167,10 +168,11 @@ impl MeshReader {
         }
     }
 
-    /// Takes the next piece of the text; all pieces together have less than 2^64 bytes. Its cost is linear in the piece.
+    /// Takes the next piece of the text; all pieces together have less than 2^64 bytes. Its cost is linear in the
+    /// piece.
     ///
-    /// A fault is the first of each text that begins with the bytes fed so far. It may come later than the bytes that decide it, at
-    /// the latest from `finish`. After a fault each later call gives the same one, `NoMemory` included.
+    /// A fault is the first of each text that begins with the bytes fed so far. It may come later than the bytes that
+    /// decide it, at the latest from `finish`. After a fault each later call gives the same one, `NoMemory` included.
     #[tactic(auto, unfolding(crate::specs::Reader::HasRead, crate::specs::Reader::fault_of, crate::specs::Reader::fed_len))]
     pub fn feed(&mut self, alloc: Global, piece: &[u8]) -> Result<(), MeshFault>
         requires { fed_len self.old + length piece.now < 2 ^ 64 }

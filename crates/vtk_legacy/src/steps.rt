@@ -32,7 +32,8 @@ fn first_count(form: CellForm) -> Stage
 /// The attributes begin.
 #[tactic(auto, unfolding(crate::specs::Machine::goes_on, crate::specs::Machine::taking_section))]
 fn attributes_step(place: u64, text: &[u8]) -> Result<Stage, MeshFault>
-    ensures { (got : Parts) → Moves (λ after. taking_section Section.Attributes got (token_taken place text.now, after)) result got }
+    ensures { (got : Parts) → Moves (λ after. taking_section Section.Attributes got
+        (token_taken place text.now, after)) result got }
 {
     if is_word(text, b"point_data") || is_word(text, b"cell_data") {
         Ok(Stage::Passed)

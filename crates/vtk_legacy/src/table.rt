@@ -12,9 +12,9 @@ use std::marker::Model;
 /// How many points a tetrahedron has.
 pub const CORNERS: u32 = 4;
 
-/// The cells in the order of the text. Up to `kept` they are finished: the tetrahedra among those whose types came. From `used` on
-/// their types are still to come. One that isn't of four different points is absent there, and has its number of points in `sizes`,
-/// from `passed` on. So a cell is finished in the place of one that was used.
+/// The cells in the order of the text. Up to `kept` they are finished: the tetrahedra among those whose types came.
+/// From `used` on their types are still to come. One that isn't of four different points is absent there, and has its
+/// number of points in `sizes`, from `passed` on. So a cell is finished in the place of one that was used.
 #[derive(Drop)]
 pub struct CellTable {
     entries: Vec<Option<Cell>>,
@@ -30,7 +30,10 @@ impl Model for CellTable {
 
     ghost Value = { Rows };
 
-    ghost view = { λ t. record { waiting = weave (drop t.used t.entries.items) (drop t.passed t.sizes.items); done = take t.kept t.entries.items } };
+    ghost view = { λ t. record {
+      waiting = weave (drop t.used t.entries.items) (drop t.passed t.sizes.items);
+      done = take t.kept t.entries.items;
+    } };
 
     ghost invariant = { λ t. IsTable t.entries.items t.kept t.used t.sizes.items t.passed };
 }
@@ -103,7 +106,8 @@ impl CellTable {
 
     /// The first cell that waits is finished, if it has four different points. Says whether it has.
     pub fn keep_first(&mut self) -> bool
-        ensures yes { IsTrue result → (self.new ≡ first_done self.old) × ((first_row self.old.waiting).size ≡ 4) × IsSome (first_row self.old.waiting).cell }
+        ensures yes { IsTrue result → (self.new ≡ first_done self.old) × ((first_row self.old.waiting).size ≡ 4)
+            × IsSome (first_row self.old.waiting).cell }
         ensures no { IsFalse result → (self.new ≡ self.old) × ((first_row self.old.waiting).cell ≡ None) }
     {
         if self.used >= self.entries.len() {

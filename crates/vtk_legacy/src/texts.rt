@@ -166,7 +166,8 @@ const MIXED: &[u8] = b"CELL_TYPES 9\n5\n10\n9\n010\n7\n4\n10\t0000000010\x0b3\r\
 const BEHIND: &[u8] =
     b"\nCELL_DATA 4\nSCALARS weight int\nLOOKUP_TABLE default\n1 2 3 4\nPOINT_DATA 6\n";
 
-/// Other spellings of these points and tetrahedra: the version, the points, the cells and the types, each plain where it is empty.
+/// Other spellings of these points and tetrahedra: the version, the points, the cells and the types, each plain where
+/// it is empty.
 pub const SAME_MESHES: [(&[u8], [&[u8]; 3]); 9] = [
     (b"3.0", [b"", b"", b""]),
     (

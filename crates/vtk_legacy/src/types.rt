@@ -57,7 +57,8 @@ fn fits_size(kind: u64, count: u32) -> bool
 /// A type, from 1 to 10, of a cell with so many points.
 #[tactic(auto, unfolding(oct_text::specs::Numbers::count_of))]
 fn type_at(place: u64, text: &[u8], size: u32) -> Result<u64, MeshFault>
-    ensures { (after : Left) → let v = digits_value 10 text.now in Agrees (λ kind. (kind, after)) result (tested (is_numeral text.now) (known_type v) (size_fits v size) true v (token_taken place text.now, after)) }
+    ensures { (after : Left) → let v = digits_value 10 text.now in Agrees (λ kind. (kind, after)) result
+        (tested (is_numeral text.now) (known_type v) (size_fits v size) true v (token_taken place text.now, after)) }
 {
     let kind = match count(text, u64::MAX) {
         Ok(kind) => kind,

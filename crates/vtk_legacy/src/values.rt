@@ -32,7 +32,8 @@ pub fn fault<T>(kind: MeshKind, place: u64) -> Result<T, MeshFault>
 
 /// A count of at most `most`.
 pub fn count_at(place: u64, text: &[u8], most: u64) -> Result<u64, MeshFault>
-    ensures agrees { (after : Left) → Agrees (λ n. (n, after)) result (counted (token_taken place text.now, after) (count_of text.now most)) }
+    ensures agrees { (after : Left) → Agrees (λ n. (n, after)) result
+        (counted (token_taken place text.now, after) (count_of text.now most)) }
     ensures within { IfOk result (λ n. n ≤ most) }
 {
     match count(text, most) {

@@ -67,7 +67,8 @@ fn behind(text: &[u8], at: usize) -> &[u8]
 /// The number of 1 to 3 digits.
 #[tactic(auto, unfolding(oct_text::specs::Numbers::count_of))]
 fn short_number(text: &[u8]) -> Option<u64>
-    ensures { MatchOption result (is_short_number text.now ≡ false) (λ n. (is_short_number text.now ≡ true) × (n ≡ digits_value 10 text.now)) }
+    ensures { MatchOption result (is_short_number text.now ≡ false)
+        (λ n. (is_short_number text.now ≡ true) × (n ≡ digits_value 10 text.now)) }
 {
     if text.len() > 3 {
         return None;

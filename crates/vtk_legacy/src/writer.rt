@@ -121,7 +121,8 @@ fn put_point(out: &mut Vec<u8>, point: &Point) -> Result<(), NoMemory>
 
 // The line of a cell, or nothing of an absent one.
 fn put_live(out: &mut Vec<u8>, cell: &Option<Cell>) -> Result<(), NoMemory>
-    ensures ok { OnOk result (out.new.items ≡ out.old.items ++ flat_map line (map cell_line (live_cells (cell.now ∷ [])))) }
+    ensures ok { OnOk result (out.new.items ≡ out.old.items
+        ++ flat_map line (map cell_line (live_cells (cell.now ∷ [])))) }
     ensures kept { take (vec_len out.old) out.new.items ≡ out.old.items }
 {
     match cell {

@@ -18,9 +18,12 @@ pub fn written_meshes_are_whole()
     ensures text { (mesh : MeshView) → mesh_spelling (without_absent mesh) ≡ mesh_spelling mesh }
 {}
 
-/// The text of a mesh is its points, the number of its live cells, its cells and their types; and that of cells is that of their chunks.
+/// The text of a mesh is its points, the number of its live cells, its cells and their types; and that of cells is that
+/// of their chunks.
 pub fn parts_are_the_text()
-    ensures text { (mesh : MeshView) → mesh_spelling mesh ≡ points_spelling mesh.points ++ (count_spelling (length (live mesh.cells)) ++ (cells_spelling mesh.cells ++ types_spelling (length (live mesh.cells)))) }
+    ensures text { (mesh : MeshView) → mesh_spelling mesh
+        ≡ points_spelling mesh.points ++ (count_spelling (length (live mesh.cells))
+        ++ (cells_spelling mesh.cells ++ types_spelling (length (live mesh.cells)))) }
     ensures chunks { (a b : List (Option Corners)) → cells_spelling (a ++ b) ≡ cells_spelling a ++ cells_spelling b }
     ensures live { (a b : List (Option Corners)) → length (live (a ++ b)) ≡ length (live a) + length (live b) }
 {}

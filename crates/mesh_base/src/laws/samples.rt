@@ -19,10 +19,12 @@ ghost use Rattle.mesh_base.specs.declared.answer.Route.TheVariants.{Probe, Walk,
 pub fn sample_edits()
     ensures once { split_once.cells ≡ None ∷ cell 4 1 2 3 ∷ cell 0 4 2 3 ∷ cell 0 1 4 3 ∷ cell 0 1 2 4 ∷ [] }
     ensures twice { split_twice.cells
-        ≡ None ∷ cell 4 1 2 3 ∷ None ∷ cell 0 1 4 3 ∷ cell 0 1 2 4 ∷ cell 5 4 2 3 ∷ cell 0 5 2 3 ∷ cell 0 4 5 3 ∷ cell 0 4 2 5 ∷ [] }
+        ≡ None ∷ cell 4 1 2 3 ∷ None ∷ cell 0 1 4 3 ∷ cell 0 1 2 4 ∷ cell 5 4 2 3 ∷ cell 0 5 2 3 ∷ cell 0 4 5 3
+        ∷ cell 0 4 2 5 ∷ [] }
     ensures points { split_twice.points ≡ at 0 0 0 ∷ at 16 0 0 ∷ at 0 16 0 ∷ at 0 0 16 ∷ at 4 4 4 ∷ at 2 6 3 ∷ [] }
     ensures removed { opened.cells
-        ≡ None ∷ cell 4 1 2 3 ∷ None ∷ None ∷ cell 0 1 2 4 ∷ cell 5 4 2 3 ∷ cell 0 5 2 3 ∷ cell 0 4 5 3 ∷ cell 0 4 2 5 ∷ [] }
+        ≡ None ∷ cell 4 1 2 3 ∷ None ∷ None ∷ cell 0 1 2 4 ∷ cell 5 4 2 3 ∷ cell 0 5 2 3 ∷ cell 0 4 5 3
+        ∷ cell 0 4 2 5 ∷ [] }
     ensures added { doubled.cells ≡ cell 0 1 2 3 ∷ cell 0 1 2 3 ∷ [] }
     ensures spare { with_spare.points ≡ at 0 0 0 ∷ at 4 0 0 ∷ at 0 4 0 ∷ at 0 0 4 ∷ at 1 0 0 ∷ [] }
     ensures fits { EditFits split_twice (Remove 3) }
@@ -86,15 +88,20 @@ pub fn sample_answers()
 pub fn sample_motions()
     ensures stay { moved (one_cell 4) Stay 1 ≡ at 0 0 0 ∷ at 4 0 0 ∷ at 0 4 0 ∷ at 0 0 4 ∷ [] }
     ensures shift { moved (one_cell 4) (Shift (pos 3) (pos 0) (neg_ℤ (pos 1))) 1
-        ≡ (pos 3, pos 0, neg_ℤ (pos 1)) ∷ (pos 7, pos 0, neg_ℤ (pos 1)) ∷ (pos 3, pos 4, neg_ℤ (pos 1)) ∷ at 3 0 3 ∷ [] }
+        ≡ (pos 3, pos 0, neg_ℤ (pos 1)) ∷ (pos 7, pos 0, neg_ℤ (pos 1)) ∷ (pos 3, pos 4, neg_ℤ (pos 1)) ∷ at 3 0 3
+        ∷ [] }
     ensures pull { moved (one_cell 4) (Pull (at 10 0 0) (pos 1) (pos 3)) 1
         ≡ at 3 0 0 ∷ at 6 0 0 ∷ at 3 2 0 ∷ at 3 0 2 ∷ [] }
     ensures shake { moved (one_cell 4) (Shake 7 3) 1
-        ≡ (pos 0, neg_ℤ (pos 3), pos 0) ∷ (pos 2, neg_ℤ (pos 1), pos 1) ∷ (neg_ℤ (pos 2), pos 2, neg_ℤ (pos 3)) ∷ (neg_ℤ (pos 2), pos 2, pos 4) ∷ [] }
+        ≡ (pos 0, neg_ℤ (pos 3), pos 0) ∷ (pos 2, neg_ℤ (pos 1), pos 1) ∷ (neg_ℤ (pos 2), pos 2, neg_ℤ (pos 3))
+        ∷ (neg_ℤ (pos 2), pos 2, pos 4) ∷ [] }
     ensures relax { moved (one_cell 4) Relax 1 ≡ at 1 1 1 ∷ at 0 1 1 ∷ at 1 0 1 ∷ at 1 1 0 ∷ [] }
-    ensures turn_x { moved (one_cell 4) (Turn X) 1 ≡ at 0 0 0 ∷ at 4 0 0 ∷ at 0 0 4 ∷ (pos 0, neg_ℤ (pos 4), pos 0) ∷ [] }
-    ensures turn_y { moved (one_cell 4) (Turn Y) 1 ≡ at 0 0 0 ∷ (pos 0, pos 0, neg_ℤ (pos 4)) ∷ at 0 4 0 ∷ at 4 0 0 ∷ [] }
-    ensures turn_z { moved (one_cell 4) (Turn Z) 1 ≡ at 0 0 0 ∷ at 0 4 0 ∷ (neg_ℤ (pos 4), pos 0, pos 0) ∷ at 0 0 4 ∷ [] }
+    ensures turn_x { moved (one_cell 4) (Turn X) 1
+        ≡ at 0 0 0 ∷ at 4 0 0 ∷ at 0 0 4 ∷ (pos 0, neg_ℤ (pos 4), pos 0) ∷ [] }
+    ensures turn_y { moved (one_cell 4) (Turn Y) 1
+        ≡ at 0 0 0 ∷ (pos 0, pos 0, neg_ℤ (pos 4)) ∷ at 0 4 0 ∷ at 4 0 0 ∷ [] }
+    ensures turn_z { moved (one_cell 4) (Turn Z) 1
+        ≡ at 0 0 0 ∷ at 0 4 0 ∷ (neg_ℤ (pos 4), pos 0, pos 0) ∷ at 0 0 4 ∷ [] }
     ensures held { moved far_out (Shift (pos 1) (pos 1) (pos 1)) 1
         ≡ at (2 ^ 30) 1 1 ∷ at 1 1 1 ∷ at 1 2 1 ∷ at 1 1 2 ∷ [] }
 {}

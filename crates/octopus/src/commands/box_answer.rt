@@ -19,7 +19,8 @@ use step_view::Step;
 
 // The text of the answer of a box on a step.
 fn answered_text(alloc: Global, area: &BoxQ, step: &Step) -> Result<Vec<u8>, NoMemory>
-    ensures { IfOk result (λ text. text.items ≡ answer_text (route step.now.mesh area.now) (answer step.now.mesh area.now)) }
+    ensures { IfOk result (λ text. text.items ≡ answer_text (route step.now.mesh area.now)
+        (answer step.now.mesh area.now)) }
 {
     let mut marks = Marks::new(alloc, step.points())?;
     let (route, vertices) = answer_plain(alloc, step, area, &mut marks)?;
@@ -33,7 +34,8 @@ pub fn run_box<F: Folder>(
     area: &BoxQ,
     folder: &mut F,
 ) -> Result<Vec<u8>, Early>
-    ensures { Owes F.files F.rest F.faults F.opened 1 folder.old folder.new result (due_of (Some (Box mesh.now area.now))) }
+    ensures { Owes F.files F.rest F.faults F.opened 1 folder.old folder.new result
+        (due_of (Some (Box mesh.now area.now))) }
 {
     let mesh = load_mesh(alloc, mesh, folder)?;
     let step = only_step(alloc, mesh)?;

@@ -20,7 +20,8 @@ use step_view::Step;
 
 // The text of the cells of a box on a step.
 fn cells_text(alloc: Global, area: &BoxQ, how: How, step: &Step) -> Result<Vec<u8>, NoMemory>
-    ensures { IfOk result (λ text. text.items ≡ answer_text (route step.now.mesh area.now) (cells_by how step.now.mesh (answer step.now.mesh area.now))) }
+    ensures { IfOk result (λ text. text.items ≡ answer_text (route step.now.mesh area.now)
+        (cells_by how step.now.mesh (answer step.now.mesh area.now))) }
 {
     let incidence = Incidence::build(alloc, step)?;
     let mut marks = Marks::new(alloc, step.points())?;
@@ -36,7 +37,8 @@ pub fn run_cells<F: Folder>(
     how: How,
     folder: &mut F,
 ) -> Result<Vec<u8>, Early>
-    ensures { Owes F.files F.rest F.faults F.opened 1 folder.old folder.new result (due_of (Some (commands.Cells mesh.now area.now how))) }
+    ensures { Owes F.files F.rest F.faults F.opened 1 folder.old folder.new result
+        (due_of (Some (commands.Cells mesh.now area.now how))) }
 {
     let mesh = load_mesh(alloc, mesh, folder)?;
     let step = only_step(alloc, mesh)?;

@@ -26,7 +26,8 @@ fn put_answer_of(
     answer: &Answer,
     session: u32,
 ) -> Result<(), NoMemory>
-    ensures { OnOk result (out.new.items ≡ out.old.items ++ flat_map answer_words (filter (of_session session) (answer.now ∷ []))) }
+    ensures { OnOk result (out.new.items ≡ out.old.items
+        ++ flat_map answer_words (filter (of_session session) (answer.now ∷ []))) }
 {
     if answer.session != session {
         return Ok(());
@@ -43,7 +44,8 @@ fn put_answers(
     answers: &[Answer],
     session: u32,
 ) -> Result<(), NoMemory>
-    ensures { OnOk result (out.new.items ≡ out.old.items ++ flat_map answer_words (filter (of_session session) answers.now)) }
+    ensures { OnOk result (out.new.items ≡ out.old.items
+        ++ flat_map answer_words (filter (of_session session) answers.now)) }
 {
     for answer in answers {
         put_answer_of(alloc, out, answer, session)?;
@@ -112,13 +114,14 @@ fn summary_of(alloc: Global, mesh: &Mesh, answers: &[Answer]) -> Result<Vec<u8>,
 
 // The summary of a registry.
 fn summary(alloc: Global, registry: &Registry) -> Result<Vec<u8>, NoMemory>
-    ensures { IfOk result (λ text. text.items ≡ summary_by registry.now.job.mesh (answers_of registry.now.job registry.now.journal)) }
+    ensures { IfOk result (λ text. text.items ≡ summary_by registry.now.job.mesh
+        (answers_of registry.now.job registry.now.journal)) }
 {
     summary_of(alloc, registry.job().mesh(), registry.answers())
 }
 
-/// Plays the job of a demo and summarises its answers. The text follows from the side and the seed, whatever the order of the
-/// run's events: each session asks about the last step.
+/// Plays the job of a demo and summarises its answers. The text follows from the side and the seed, whatever the order
+/// of the run's events: each session asks about the last step.
 pub fn run_demo<R: Threads + Wait + Sync, G: Gate>(
     rt: &R,
     alloc: Global,

@@ -22,7 +22,8 @@ use step_view::Step;
 
 // Appends the line of a ring.
 fn put_ring_line(alloc: Global, out: &mut Vec<u8>, number: u64, count: u64) -> Result<(), NoMemory>
-    ensures { OnOk result (out.new.items ≡ out.old.items ++ line (codes "ring " ++ decimal number ++ (codes " count " ++ decimal count))) }
+    ensures { OnOk result (out.new.items ≡ out.old.items
+        ++ line (codes "ring " ++ decimal number ++ (codes " count " ++ decimal count))) }
 {
     put_labelled(alloc, out, b"ring ", number)?;
     put_labelled_line(alloc, out, b" count ", count)
@@ -88,7 +89,8 @@ pub fn run_rings<F: Folder>(
     most: Hops,
     folder: &mut F,
 ) -> Result<Vec<u8>, Early>
-    ensures { Owes F.files F.rest F.faults F.opened 1 folder.old folder.new result (due_of (Some (commands.Rings mesh.now area.now most))) }
+    ensures { Owes F.files F.rest F.faults F.opened 1 folder.old folder.new result
+        (due_of (Some (commands.Rings mesh.now area.now most))) }
 {
     let mesh = load_mesh(alloc, mesh, folder)?;
     let step = only_step(alloc, mesh)?;

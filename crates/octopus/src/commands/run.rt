@@ -40,7 +40,9 @@ pub fn play_script<R: Threads + Wait + Sync, F: Folder, G: Gate>(
     folder: &mut F,
     gate: &G,
 ) -> Result<Vec<u8>, Early>
-    ensures { Owes F.files F.rest F.faults F.opened (most_of_job (F.files folder.old) mesh.now) folder.old folder.new result (due_of_played (Run mesh.now script.now)) }
+    ensures { Owes F.files F.rest F.faults F.opened
+        (most_of_job (F.files folder.old) mesh.now) folder.old folder.new result
+        (due_of_played (Run mesh.now script.now)) }
 {
     let job = load_job(alloc, mesh, script, folder)?;
     Ok(played_report(rt, alloc, job, gate)?)

@@ -28,7 +28,8 @@ pub fn run_scan<F: Folder>(
     area: &BoxQ,
     folder: &mut F,
 ) -> Result<Vec<u8>, Early>
-    ensures { Owes F.files F.rest F.faults F.opened 1 folder.old folder.new result (due_of (Some (Scan mesh.now area.now))) }
+    ensures { Owes F.files F.rest F.faults F.opened 1 folder.old folder.new result
+        (due_of (Some (Scan mesh.now area.now))) }
 {
     let mesh = load_mesh(alloc, mesh, folder)?;
     Ok(scan_text(alloc, area, &mesh)?)

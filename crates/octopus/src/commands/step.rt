@@ -52,7 +52,9 @@ pub fn run_step<F: Folder>(
     step: u32,
     folder: &mut F,
 ) -> Result<Vec<u8>, Early>
-    ensures { Owes F.files F.rest F.faults F.opened (most_of_job (F.files folder.old) mesh.now) folder.old folder.new result (due_of (Some (commands.Step mesh.now script.now step))) }
+    ensures { Owes F.files F.rest F.faults F.opened
+        (most_of_job (F.files folder.old) mesh.now) folder.old folder.new result
+        (due_of (Some (commands.Step mesh.now script.now step))) }
 {
     let job = load_job(alloc, mesh, script, folder)?;
     let last = job.steps();

@@ -24,7 +24,8 @@ fn upgraded_text(alloc: Global, script: Script) -> Result<Vec<u8>, NoMemory>
 
 /// Reads the script and prints it in version 2.
 pub fn run_upgrade<F: Folder>(alloc: Global, script: &str, folder: &mut F) -> Result<Vec<u8>, Early>
-    ensures { Owes F.files F.rest F.faults F.opened 1 folder.old folder.new result (due_of (Some (Upgrade script.now))) }
+    ensures { Owes F.files F.rest F.faults F.opened 1 folder.old folder.new result
+        (due_of (Some (Upgrade script.now))) }
 {
     let script = load_script(alloc, script, folder)?;
     Ok(upgraded_text(alloc, script)?)

@@ -12,9 +12,9 @@ use std::sync::Wait;
 use std::test::Fail;
 use std::thread::Threads;
 
-// The words, how many calls on the folder they make until their files are read, in pieces of at most 7 bytes and in whole
-// pieces, and what they write. Of a file of 136 bytes there are the selection, 20 reads of at most 7 bytes, and the read at the
-// end; of one of 88 bytes 13 reads.
+// The words, how many calls on the folder they make until their files are read, in pieces of at most 7 bytes and in
+// whole pieces, and what they write. Of a file of 136 bytes there are the selection, 20 reads of at most 7 bytes, and
+// the read at the end; of one of 88 bytes 13 reads.
 const CALLS: [(&str, u64, u64, &str); 7] = [
     ("scan m.vtk 0 0 0 4 0 0", 22, 3, "count 2\n0 1\n"),
     ("surface m.vtk", 22, 3, "count 4\n0 1 2 3\n"),
@@ -40,13 +40,15 @@ const CALLS: [(&str, u64, u64, &str); 7] = [
     ("upgrade s.txt", 15, 3, THREE_SHIFTS_2),
 ];
 
-// The commands that play a job, and how many calls they make until their files are read. What they write differs from run to run.
+// The commands that play a job, and how many calls they make until their files are read. What they write differs from
+// run to run.
 const PLAYED_CALLS: [(&str, u64, u64); 2] = [
     ("run m.vtk s.txt", 37, 6),
     ("watch m.vtk s.txt", 37, 6),
 ];
 
-// Runs the words where these calls on the folder and on the sink fail. A call moves at most 7 bytes, or all that there are.
+// Runs the words where these calls on the folder and on the sink fail. A call moves at most 7 bytes, or all that there
+// are.
 fn run_failing(
     rt: &(impl Threads + Wait + Sync),
     alloc: Global,

@@ -134,8 +134,8 @@ fn refusals(rt: HostRuntime) -> Result<(), Fail> {
     Ok(())
 }
 
-// The words, the number of the first line, what stands behind that line, and the refusal. The step is above the last one
-// too, which is told only of a job without a fault; a fault by the script alone goes before one on the mesh.
+// The words, the number of the first line, what stands behind that line, and the refusal. The step is above the last
+// one too, which is told only of a job without a fault; a fault by the script alone goes before one on the mesh.
 const FAULTS: [(&str, u32, &str, &str); 16] = [
     (
         "step m.vtk s.txt 9",

@@ -17,7 +17,8 @@ use step_registry::{Event, Registry};
 const THREE_STEPS: &str =
     "octopus script 1\nshift 1 0 0\nshift 1 0 0\nshift 1 0 0\nsession\nwait 3\nbox 3 0 0 7 0 0\nend\n";
 
-// The registry of a run of the job of one cell and this script. Its journal is whole, by its own test and by the one here.
+// The registry of a run of the job of one cell and this script. Its journal is whole, by its own test and by the one
+// here.
 fn played<R: Threads + Wait + Sync, G: Gate>(
     rt: &R,
     alloc: Global,

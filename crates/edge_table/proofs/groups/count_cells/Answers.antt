@@ -15,7 +15,7 @@ count_slots-requires-clause-fits c a u lt =
     let filled = c.in_ok-fill.ensures.corners g in
     let same = ap (λ l. sum_by g (corners_in r l)) c.loop-range.invariant.cells in
     let next = corners_before-next g r cells in
-    let most = before_le a u (r + 1) cells c.are_different.ensures in
+    let most = before_le a u (r + 1) cells c.are_all_different.ensures in
     let so_far = c.loop-range.invariant.pairs a u (omega (arith, c.loop-range.invariant.len)) in
     omega (arith, slots, filled, same, next, most, so_far, cell_pairs-le cells a u, c.requires.few_cells)
 
@@ -50,4 +50,4 @@ loop-range-preserved c = record {
 pub returns-clause-pairs : goal.returns-clause-pairs
 returns-clause-pairs c a u lt =
     let all = corners_before-all c.args.points c.loop-range.range c.args.cells.now c.requires.within (omega (arith, c.in_ok-ranges.ensures.covers, c.count-count.ensures)) in
-    c.loop-range.invariant.pairs a u lt ∙ ap (sum_by (corner_pairs a u)) all ∙ pairs_are a u c.args.cells.now c.are_different.ensures
+    c.loop-range.invariant.pairs a u lt ∙ ap (sum_by (corner_pairs a u)) all ∙ pairs_are a u c.args.cells.now c.are_all_different.ensures

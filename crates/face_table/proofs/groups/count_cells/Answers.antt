@@ -18,7 +18,7 @@ count_slots-requires c = record {
       let filled = c.in_ok-fill.ensures.corners g in
       let same = ap (λ l. sum_by g (corners_in r l)) c.loop-range.invariant.cells in
       let next = corners_before-next g r cells in
-      let most = before_le f (r + 1) cells c.are_different.ensures in
+      let most = before_le f (r + 1) cells c.are_all_different.ensures in
       let so_far = c.loop-range.invariant.tally f in
       omega (arith, slots, filled, same, next, most, so_far, face_count-le cells f, c.requires.few_cells);
 }
@@ -51,5 +51,5 @@ pub returns : goal.returns
 returns c = record {
   tally = λ f.
       let a = corners_before-all c.args.points c.loop-range.range c.args.cells.now c.requires.within (omega (arith, c.in_ok-ranges.ensures.covers, c.count-count.ensures)) in
-      ap (λ l. tally_in l f) c.note_starts.ensures ∙ c.loop-range.invariant.tally f ∙ ap (sum_by (corner_share f)) a ∙ faces_are f c.args.cells.now c.are_different.ensures;
+      ap (λ l. tally_in l f) c.note_starts.ensures ∙ c.loop-range.invariant.tally f ∙ ap (sum_by (corner_share f)) a ∙ faces_are f c.args.cells.now c.are_all_different.ensures;
 }

@@ -2,7 +2,7 @@ use Rattle.std.proofs.Common.{Option, IfSome, sym, subst, arith}
 use Rattle.std.proofs.lemmas.List.{take_all}
 use Rattle.std.proofs.lemmas.List.Elements.{All-more, All-same}
 use Rattle.mesh_base.specs.Mesh.{Corners, AreDifferent}
-use Rattle.topo.proofs.tables.are_different.Goals as goal
+use Rattle.mesh_base.proofs.cells.are_all_different.Goals as goal
 
 pub loop-cell-preserved : goal.loop-cell-preserved
 loop-cell-preserved c =
