@@ -50,69 +50,23 @@ build_peer() {
     g++ -O2 -std=c++17 -I "$top/bench" -o "$work/peer" "$1"
 }
 
-# block_functions: `block`, which lists the cells of n^3 cubes, six a cube, as the program's `gen` numbers them
-block_functions() {
+# put_sizes CALL SIZE..: in place of the line SIZES of the program, one line a size, where CALL has %d for it
+put_sizes() {
+    call=$1
+    shift
+    for n in "$@"; do printf "    $call\n" "$n"; done > "$work/sizes"
+    sed -i -e "/^SIZES\$/{r $work/sizes
+d}" "$program/src/main.rt"
+}
+
+# resident_function: `resident`, the bytes of the program that lie in memory
+resident_function() {
     cat <<'RT'
 
-fn cube(p: u32, y: u32, z: u32) -> [[u32; 4]; 6] {
-    let x = p.wrapping_add(1);
-    let xy = x.wrapping_add(y);
-    let xz = x.wrapping_add(z);
-    let yz = p.wrapping_add(y).wrapping_add(z);
-    let q = xy.wrapping_add(z);
-    let y = p.wrapping_add(y);
-    let z = p.wrapping_add(z);
-    [
-        [p, x, xy, q],
-        [p, x, xz, q],
-        [p, y, xy, q],
-        [p, y, yz, q],
-        [p, z, xz, q],
-        [p, z, yz, q],
-    ]
-}
-
-fn push_cube(cells: &mut Vec<Option<Cell>>, corners: &[[u32; 4]]) -> Result<(), NoMemory> {
-    for four in corners {
-        cells.push(Cell::new(*four))?;
-    }
-    Ok(())
-}
-
-fn block(alloc: Global, n: u32) -> Result<Vec<Option<Cell>>, NoMemory> {
-    let mut cells = Vec::new(alloc);
-    let y = n.wrapping_add(1);
-    let z = y.wrapping_mul(y);
-    for k in 0..n {
-        for j in 0..n {
-            for i in 0..n {
-                let p = i.wrapping_add(y.wrapping_mul(j)).wrapping_add(z.wrapping_mul(k));
-                push_cube(&mut cells, &cube(p, y, z))?;
-            }
-        }
-    }
-    Ok(cells)
-}
-RT
-}
-
-# grid_functions: `grid`, which lists the points of the same block, 16 apart
-grid_functions() {
-    cat <<'RT'
-
-fn grid(alloc: Global, n: i32) -> Result<Vec<Point>, NoMemory> {
-    let mut points = Vec::new(alloc);
-    for k in 0..n.wrapping_add(1) {
-        for j in 0..n.wrapping_add(1) {
-            for i in 0..n.wrapping_add(1) {
-                let place = Point::new(i.wrapping_mul(16), j.wrapping_mul(16), k.wrapping_mul(16));
-                if let Some(place) = place {
-                    points.push(place)?;
-                }
-            }
-        }
-    }
-    Ok(points)
+fn resident(rt: &HostRuntime) -> io::Result<u64> {
+    let text = fs::read_to_string(rt, "/proc/self/statm")?;
+    let pages = text.split(' ').nth(1).and_then(|word| word.parse::<u64>().ok()).unwrap_or(0);
+    Ok(pages.wrapping_mul(4096))
 }
 RT
 }

@@ -9,17 +9,18 @@
 set -eu
 here=$(cd "$(dirname "$0")" && pwd)
 . "$here/../parts.sh"
-take_crates mesh_base face_table edge_table topo move_kernels
-new_program time_kernels mesh_base topo move_kernels
+take_crates sample_meshes move_kernels
+new_program time_kernels mesh_base sample_meshes topo move_kernels
 cat > "$program/src/main.rt" <<'EOF'
 //! Times motions and splits.
 #![tactic(auto)]
 
-ghost use Rattle.std.specs.Prelude.{◌≡◌, ◌≤◌, length};
-ghost use Rattle.move_kernels.specs.Motions.{IsKernel};
+ghost use Rattle.std.specs.Prelude.{◌≡◌, ◌<◌, ◌≤◌, length};
+ghost use Rattle.move_kernels.specs.Motions.{HasDivisor};
 
-use mesh_base::{Cell, CellList, Edit, Kernel, Mesh, NoMemory, Point, PointList};
+use mesh_base::{CellList, Edit, Kernel, Mesh, NoMemory, Point, PointList};
 use move_kernels::{moved, moved_par};
+use sample_meshes::block_mesh;
 use std::alloc::Global;
 use std::io;
 use std::marker::Sync;
@@ -60,7 +61,7 @@ fn best_alone(
     shape: &Shape,
 ) -> io::Result<(u128, i64)>
     requires points { length old.now ≡ shape.now.points }
-    requires kernel { IsKernel kernel.now }
+    requires kernel { HasDivisor kernel.now }
 {
     let alloc = rt.alloc();
     best_of_ten!(rt, moved(alloc, kernel, 1, old, shape)?)
@@ -74,7 +75,7 @@ fn best_in_threads(
     shape: &Shape,
 ) -> io::Result<(u128, i64)>
     requires points { length old.now ≡ shape.now.points }
-    requires kernel { IsKernel kernel.now }
+    requires kernel { HasDivisor kernel.now }
 {
     let alloc = rt.alloc();
     best_of_ten!(rt, moved_par(threads, alloc, kernel, 1, old, shape)?)
@@ -90,7 +91,7 @@ fn time_motion(
     shape: &Shape,
 ) -> io::Result<()>
     requires points { length old.now ≡ shape.now.points }
-    requires kernel { IsKernel kernel.now }
+    requires kernel { HasDivisor kernel.now }
 {
     let (alone, sum) = best_alone(rt, kernel, old, shape)?;
     println!(rt; "kernels {name} n {n} alone      {alone} us, sum {sum}")?;
@@ -135,15 +136,10 @@ fn time_all(rt: &HostRuntime, threads: &(impl Threads + Sync), n: u32, mesh: &Me
 }
 
 fn run(rt: &HostRuntime, threads: &(impl Threads + Sync), n: u32) -> io::Result<()>
-    requires few { n ≤ 87 }
+    requires { (0 < n) × (n ≤ 87) }
 {
-    let alloc = rt.alloc();
-    let points = PointList::of(grid(alloc, n as i32)?);
-    let cells = CellList::of(block(alloc, n)?);
-    if let Some(mesh) = Mesh::new(points, cells) {
-        time_all(rt, threads, n, &mesh)?;
-    }
-    Ok(())
+    let mesh = block_mesh(rt.alloc(), n)?;
+    time_all(rt, threads, n, &mesh)
 }
 
 fn main(rt: HostRuntime) -> io::Result<()> {
@@ -151,14 +147,8 @@ SIZES
     Ok(())
 }
 EOF
-{
-    block_functions
-    grid_functions
-} >> "$program/src/main.rt"
 sizes=${*:-60}
-for n in $sizes; do printf '    run(&rt, &rt, %d)?;\n' "$n"; done > "$work/sizes"
-sed -i -e "/^SIZES\$/{r $work/sizes
-d}" "$program/src/main.rt"
+put_sizes 'run(&rt, &rt, %d)?;' $sizes
 build_peer "$here/peer.cpp"
 build_program
 # Each program once more, now that nothing else of this script runs.

@@ -2,7 +2,7 @@
 # Microseconds and position reads of boxes on blocks of cubes: probe, walk and crawl, beside a plain scan of all vertices,
 # and both beside the same in C++.
 #
-# usage: bench/queries/run.sh [CUBES_A_SIDE..]     (default: 20 40 80)
+# usage: bench/queries/run.sh [CUBES_A_SIDE..]     (default: 20 40 80, at most 87)
 #
 # Boxes have 64 vertices, 0.1 % and 1 % of all, at a corner of the block and in its middle. It writes a small program over
 # copies of the crates into a temporary folder, which `rt run` proves and builds by LLVM, and builds peer.cpp by g++ -O2.
@@ -12,21 +12,21 @@
 set -eu
 here=$(cd "$(dirname "$0")" && pwd)
 . "$here/../parts.sh"
-take_crates mesh_base face_table edge_table topo run_script step_view probe_walk box_crawl box_query
-new_program time_queries mesh_base topo run_script step_view box_crawl box_query
-mkdir -p "$program/proofs/time_box" "$program/proofs/first_of"
+take_crates sample_meshes job_steps box_query
+new_program time_queries mesh_base sample_meshes run_script job_steps step_view box_crawl box_query
+mkdir -p "$program/proofs/time_box"
 cat > "$program/src/main.rt" <<'RT'
 //! Times boxes on blocks of cubes.
 #![tactic(auto)]
 
-ghost use Rattle.std.specs.Prelude.{◌≡◌, ◌<◌, ◌≤ℤ◌, pos, IfOk};
-ghost use Rattle.std.specs.Arc.{arc_value};
-ghost use Rattle.topo.specs.Topology.{IsTopologyOf};
+ghost use Rattle.std.specs.Prelude.{◌≡◌, ◌<◌, ◌≤◌};
 
 use box_crawl::Marks;
 use box_query::{answer_plain, scan};
-use mesh_base::{BoxQ, Cell, CellList, Mesh, NoMemory, Point, PointList};
-use run_script::{Job, PlanList, Script, ScriptFault, SessionList};
+use job_steps::first_step;
+use mesh_base::{BoxQ, Point};
+use run_script::Job;
+use sample_meshes::block_mesh;
 use std::alloc::Global;
 use std::env;
 use std::io;
@@ -35,38 +35,6 @@ use std::sync::Arc;
 use std::sync::ledger::{Blank, Ledger};
 use std::time::Instant;
 use step_view::{Step, Steps};
-use topo::{Positions, Shape, Topo};
-
-// A job of the block that makes no steps.
-fn job_of(alloc: Global, mesh: Mesh) -> Result<Job, ScriptFault> {
-    let plans = PlanList::of(Vec::new(alloc));
-    let sessions = SessionList::of(Vec::new(alloc));
-    Job::check(alloc, mesh, Script::of(1, plans, sessions))
-}
-
-fn shape_of(alloc: Global, job: &Job) -> Result<Arc<Shape>, NoMemory>
-    ensures { IfOk result (λ shape. IsTopologyOf job.now.mesh (arc_value shape)) }
-{
-    let mesh = job.mesh();
-    let cells = CellList::of(mesh.cells().to_vec(alloc)?);
-    let topo = Topo::build(alloc, mesh.points().len() as u32, cells)?;
-    topo.freeze(alloc)
-}
-
-fn places_of(alloc: Global, job: &Job) -> Result<Arc<Positions>, NoMemory>
-    ensures { IfOk result (λ places. arc_value places ≡ job.now.mesh.points) }
-{
-    let points = job.mesh().points().to_vec(alloc)?;
-    Positions::of(alloc, PointList::of(points))
-}
-
-// Step 0 of a job.
-fn first_of(alloc: Global, job: Job) -> Result<Step, NoMemory> {
-    let shape = shape_of(alloc, &job)?;
-    let places = places_of(alloc, &job)?;
-    let job = Arc::new(alloc, job)?;
-    Ok(Step::new(job, 0, shape, places))
-}
 
 fn area_of(lo: i32, hi: i32) -> Option<BoxQ> {
     BoxQ::new(Point::new(lo, lo, lo)?, Point::new(hi, hi, hi)?)
@@ -136,27 +104,20 @@ fn time_boxes(rt: &HostRuntime, step: &Step, marks: &mut Marks, n: i32) -> io::R
     Ok(())
 }
 
-fn run(rt: &HostRuntime, n: i32) -> io::Result<()>
-    requires few { n ≤ℤ pos 100 }
-    requires some { pos 0 ≤ℤ n }
+fn run(rt: &HostRuntime, n: u32) -> io::Result<()>
+    requires { (0 < n) × (n ≤ 87) }
 {
     let alloc = rt.alloc();
-    let cells = block(alloc, n as u32)?;
-    let points = grid(alloc, n)?;
+    let job = Job::still(alloc, block_mesh(alloc, n)?)?;
+    let (step, _maker) = first_step(alloc, Arc::new(alloc, job)?)?;
     let mut marks = Marks::new(alloc, 0)?;
-    if let Some(mesh) = Mesh::new(PointList::of(points), CellList::of(cells)) {
-        if let Ok(job) = job_of(alloc, mesh) {
-            let step = first_of(alloc, job)?;
-            time_boxes(rt, &step, &mut marks, n)?;
-        }
-    }
-    Ok(())
+    time_boxes(rt, &step, &mut marks, n as i32)
 }
 
 fn main(rt: HostRuntime) -> io::Result<()> {
     for word in env::args(&rt)? {
-        match word.parse::<i32>() {
-            Ok(n) if 0 <= n && n <= 100 => {
+        match word.parse::<u32>() {
+            Ok(n) if 1 <= n && n <= 87 => {
                 println!(rt; "block of {n} cubes a side")?;
                 run(&rt, n)?;
             }
@@ -166,17 +127,12 @@ fn main(rt: HostRuntime) -> io::Result<()> {
     Ok(())
 }
 RT
-{
-    block_functions
-    grid_functions
-} >> "$program/src/main.rt"
 cat > "$program/proofs/time_box/Invariants.antt" <<'EOT'
 use Rattle.time_queries.proofs.time_box.Given as goal
 
 abbrev pub ghosts-time_scan : goal.ghosts-time_scan
 ghosts-time_scan a = record { name = a.blank.name; parts = a.blank.parts }
 EOT
-sed 's/box_query.proofs.tests/time_queries.proofs/' "$top/crates/box_query/proofs/tests/first_of/Answers.antt" > "$program/proofs/first_of/Answers.antt"
 build_peer "$here/peer.cpp"
 build_program
 for n in ${*:-20 40 80}; do

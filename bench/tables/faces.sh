@@ -1,7 +1,7 @@
 #!/bin/sh
 # Times the table of faces on blocks of cubes, beside two tables in C++ that count the same.
 #
-# usage: bench/tables/faces.sh [CUBES_A_SIDE..]     (default: 40 80)
+# usage: bench/tables/faces.sh [CUBES_A_SIDE..]     (default: 40 80, at most 87)
 #
 # It writes a small program over copies of the crates into a temporary folder, which `rt run` proves and builds by LLVM,
 # and builds peer_faces.cpp by g++ -O2. Both make the same block, build their tables, put each sixth cell in once more and
@@ -9,44 +9,23 @@
 set -eu
 here=$(cd "$(dirname "$0")" && pwd)
 . "$here/../parts.sh"
-take_crates mesh_base face_table
-new_program time_faces mesh_base face_table
+take_crates sample_meshes face_table
+new_program time_faces mesh_base sample_meshes face_table
 cat > "$program/src/main.rt" <<'EOF'
 //! Times the table of faces.
 #![tactic(auto)]
 
-ghost use Rattle.std.specs.Prelude.{◌≡◌, ◌↔◌, IsTrue, OnOk};
-ghost use Rattle.mesh_base.specs.Edit.{cell_at};
+ghost use Rattle.std.specs.Prelude.{◌≡◌, ◌<◌, ◌≤◌, ◌↔◌, IsTrue, OnOk};
 ghost use Rattle.mesh_base.specs.Mesh.{IsWithin};
 ghost use Rattle.face_table.specs.Tally.{IsTallyOf};
 
 use face_table::FaceTable;
-use mesh_base::{Cell, CellList, MOST_CELLS, Mesh, NoMemory, Point, PointList};
+use mesh_base::{Cell, MOST_CELLS, Mesh, live_cell};
+use sample_meshes::block_mesh;
 use std::alloc::{AllocError, Global};
 use std::fs;
 use std::io;
 use std::time::Instant;
-
-fn places(alloc: Global, n: u32) -> Result<Vec<Point>, AllocError> {
-    let side = n.wrapping_add(1);
-    let count = side.wrapping_mul(side).wrapping_mul(side);
-    let mut points = Vec::new(alloc);
-    for _point in 0..count {
-        if let Some(place) = Point::new(0, 0, 0) {
-            points.push(place)?;
-        }
-    }
-    Ok(points)
-}
-
-fn live_cell(cells: &[Option<Cell>], i: usize) -> Option<Cell>
-    ensures { result ≡ cell_at cells.now i }
-{
-    match cells.get(i) {
-        Some(cell) => *cell,
-        None => None,
-    }
-}
 
 fn is_within(cell: &Cell, points: u32) -> bool
     ensures { IsTrue result ↔ IsWithin points cell.now }
@@ -127,13 +106,6 @@ fn take_many(
     }
 }
 
-// The bytes of this program that lie in memory.
-fn resident(rt: &HostRuntime) -> io::Result<u64> {
-    let text = fs::read_to_string(rt, "/proc/self/statm")?;
-    let pages = text.split(' ').nth(1).and_then(|word| word.parse::<u64>().ok()).unwrap_or(0);
-    Ok(pages.wrapping_mul(4096))
-}
-
 fn time_table(rt: &HostRuntime, n: u32, mesh: &Mesh) -> io::Result<()> {
     let alloc = rt.alloc();
     let mut cells = mesh.cells().to_vec(alloc)?;
@@ -157,14 +129,11 @@ fn time_table(rt: &HostRuntime, n: u32, mesh: &Mesh) -> io::Result<()> {
     println!(rt; "face_table     n {n} cells {live} build {build} us, put {put} ns, take {take} ns, {bytes} bytes a cell, surface {surface}")
 }
 
-fn run(rt: &HostRuntime, n: u32) -> io::Result<()> {
-    let alloc = rt.alloc();
-    let points = places(alloc, n)?;
-    let cells = block(alloc, n)?;
-    if let Some(mesh) = Mesh::new(PointList::of(points), CellList::of(cells)) {
-        time_table(rt, n, &mesh)?;
-    }
-    Ok(())
+fn run(rt: &HostRuntime, n: u32) -> io::Result<()>
+    requires { (0 < n) × (n ≤ 87) }
+{
+    let mesh = block_mesh(rt.alloc(), n)?;
+    time_table(rt, n, &mesh)
 }
 
 fn main(rt: HostRuntime) -> io::Result<()> {
@@ -173,11 +142,9 @@ SIZES
     Ok(())
 }
 EOF
-block_functions >> "$program/src/main.rt"
+resident_function >> "$program/src/main.rt"
 sizes=${*:-40 80}
-for n in $sizes; do printf '    run(&rt, %d)?;\n' "$n"; done > "$work/sizes"
-sed -i -e "/^SIZES\$/{r $work/sizes
-d}" "$program/src/main.rt"
+put_sizes 'run(&rt, %d)?;' $sizes
 invariant() {
     mkdir -p "$program/proofs/$1"
     cat > "$program/proofs/$1/Invariants.antt" <<EOF

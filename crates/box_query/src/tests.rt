@@ -55,49 +55,50 @@ fn boxes_of_a_split_cell(rt: HostRuntime) -> Result<(), Fail> {
     Ok(())
 }
 
+// The same cell twice, each four of five points, two cells with a face in common, a point that no cell has,
+// nothing.
+const SMALL_MESHES: [(&[[i32; 3]], &[[u32; 4]], [i32; 3], Route, &[u32]); 5] = [
+    (
+        &[[0, 0, 0], [4, 0, 0], [0, 4, 0], [0, 0, 4]],
+        &[[0, 1, 2, 3], [0, 1, 2, 3]],
+        [4, 0, 0],
+        Route::Scan,
+        &[0, 1],
+    ),
+    (
+        &CORNER_PLACES,
+        &[
+            [0, 1, 2, 3],
+            [0, 1, 2, 4],
+            [0, 1, 3, 4],
+            [0, 2, 3, 4],
+            [1, 2, 3, 4],
+        ],
+        [1, 1, 1],
+        Route::Scan,
+        &[0, 4],
+    ),
+    (
+        &[[0, 0, 0], [10, 0, 0], [0, 10, 0], [0, 0, 10], [10, 10, 10]],
+        &[[0, 1, 2, 3], [1, 2, 3, 4]],
+        [10, 0, 0],
+        Route::Probe,
+        &[0, 1],
+    ),
+    (
+        &CORNER_PLACES,
+        &[[0, 1, 2, 3]],
+        [4, 1, 1],
+        Route::Probe,
+        &[0, 1],
+    ),
+    (&[], &[], [16, 16, 16], Route::Scan, &[]),
+];
+
 #[test]
 fn boxes_of_small_meshes(rt: HostRuntime) -> Result<(), Fail> {
     let alloc = rt.alloc();
-    // The same cell twice, each four of five points, two cells with a face in common, a point that no cell has,
-    // nothing.
-    let table: [(&[[i32; 3]], &[[u32; 4]], [i32; 3], Route, &[u32]); 5] = [
-        (
-            &[[0, 0, 0], [4, 0, 0], [0, 4, 0], [0, 0, 4]],
-            &[[0, 1, 2, 3], [0, 1, 2, 3]],
-            [4, 0, 0],
-            Route::Scan,
-            &[0, 1],
-        ),
-        (
-            &CORNER_PLACES,
-            &[
-                [0, 1, 2, 3],
-                [0, 1, 2, 4],
-                [0, 1, 3, 4],
-                [0, 2, 3, 4],
-                [1, 2, 3, 4],
-            ],
-            [1, 1, 1],
-            Route::Scan,
-            &[0, 4],
-        ),
-        (
-            &[[0, 0, 0], [10, 0, 0], [0, 10, 0], [0, 0, 10], [10, 10, 10]],
-            &[[0, 1, 2, 3], [1, 2, 3, 4]],
-            [10, 0, 0],
-            Route::Probe,
-            &[0, 1],
-        ),
-        (
-            &CORNER_PLACES,
-            &[[0, 1, 2, 3]],
-            [4, 1, 1],
-            Route::Probe,
-            &[0, 1],
-        ),
-        (&[], &[], [16, 16, 16], Route::Scan, &[]),
-    ];
-    for (places, corners, hi, route, vertices) in table {
+    for (places, corners, hi, route, vertices) in SMALL_MESHES {
         let step = step_of(alloc, places, corners)?;
         let (found, list) = answer_of(alloc, &step, [0, 0, 0], hi)?;
         assert_eq!(rt; found, route, "{hi:?}");

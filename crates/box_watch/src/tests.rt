@@ -13,14 +13,9 @@ fn job_of(alloc: Global, script: &str) -> Result<Arc<Job>, Fail> {
     if text.len() > 1000 {
         return Err(Fail::new("script"));
     }
-    let script = match read_script(alloc, text) {
-        Ok(script) => script,
-        Err(fault) => return Err(Fail::new(format_args!("{fault:?}"))),
-    };
-    match Job::check(alloc, one_cell(alloc)?, script) {
-        Ok(job) => Ok(Arc::new(alloc, job)?),
-        Err(fault) => Err(Fail::new(format_args!("{fault:?}"))),
-    }
+    let script = read_script(alloc, text)?;
+    let job = Job::check(alloc, one_cell(alloc)?, script)?;
+    Ok(Arc::new(alloc, job)?)
 }
 
 const PUBLISH: Event = Event::Publish { step: 1 };

@@ -1,10 +1,11 @@
 //! Tables beside surfaces that were worked out by hand, and beside tables that are built anew.
-ghost use Rattle.std.specs.Prelude.{◌≡◌, ◌+◌, ◌<◌, ◌↔◌, Some, [], ◌∷◌, ◌++◌, length, IsTrue, OnOk, IfOk};
+ghost use Rattle.std.specs.Prelude.{◌≡◌, ◌+◌, ◌<◌, ◌≤◌, ◌↔◌, Some, [], ◌∷◌, ◌++◌, length, IsTrue, OnOk, IfOk};
 ghost use Rattle.mesh_base.specs.Mesh.{IsWithin, corners_of};
 ghost use Rattle.face_table.specs.Tally.{IsTallyOf};
 
 use crate::FaceTable;
 use mesh_base::{Cell, CellList, Face, MOST_CELLS, MOST_POINTS, Mesh, Point, PointList, live_cell};
+use sample_meshes::block_mesh;
 use std::alloc::Global;
 use std::test::Fail;
 
@@ -314,41 +315,15 @@ fn points_come_and_go(rt: HostRuntime) -> Result<(), Fail> {
     Ok(())
 }
 
-// The six cells of a cube whose least corner is p, where its rows are y apart and its layers z.
-fn cube(p: u32, y: u32, z: u32) -> [[u32; 4]; 6] {
-    let x = p.wrapping_add(1);
-    let xy = x.wrapping_add(y);
-    let xz = x.wrapping_add(z);
-    let yz = p.wrapping_add(y).wrapping_add(z);
-    let q = xy.wrapping_add(z);
-    let y = p.wrapping_add(y);
-    let z = p.wrapping_add(z);
-    [
-        [p, x, xy, q],
-        [p, x, xz, q],
-        [p, y, xy, q],
-        [p, y, yz, q],
-        [p, z, xz, q],
-        [p, z, yz, q],
-    ]
-}
-
-// The cells of a block of n cubes a side.
-fn block(alloc: Global, n: u32) -> Result<Vec<[u32; 4]>, Fail> {
-    let mut cells = Vec::new(alloc);
-    let y = n.wrapping_add(1);
-    let z = y.wrapping_mul(y);
-    for k in 0..n {
-        for j in 0..n {
-            for i in 0..n {
-                let p = i
-                    .wrapping_add(y.wrapping_mul(j))
-                    .wrapping_add(z.wrapping_mul(k));
-                cells.extend_from_slice(&cube(p, y, z))?;
-            }
-        }
+// The corners of the cells of the block of n cubes a side.
+fn block(alloc: Global, n: u32) -> Result<Vec<[u32; 4]>, Fail>
+    requires { (0 < n) × (n ≤ 87) }
+{
+    let mut corners = Vec::new(alloc);
+    for cell in block_mesh(alloc, n)?.cells().iter().flatten() {
+        corners.push(cell.corners())?;
     }
-    Ok(cells)
+    Ok(corners)
 }
 
 // A block of n cubes a side has 6 n n + 2 points on its sides, and a split adds none.

@@ -6,7 +6,7 @@ ghost use Rattle.topo.specs.Topology.{IsTopologyOf};
 ghost use Rattle.run_script.specs.Jobs.{all_edited};
 ghost use Rattle.job_steps.specs.Added.{new_point, new_points, AllFit};
 
-use mesh_base::{Edit, MOST_POINTS, NoMemory, Point, PointList};
+use mesh_base::{Edit, MOST_POINTS, NoMemory, Point};
 use run_script::LinedEdit;
 use std::alloc::Global;
 use std::sync::Arc;
@@ -45,40 +45,19 @@ pub fn make_edits(
     Ok(added)
 }
 
-// These places, and then those: so many together.
-fn joined(
-    alloc: Global,
-    count: u32,
-    old: &Positions,
-    added: &[Point],
-) -> Result<Arc<Positions>, NoMemory>
-    requires count { length old.now + length added.now ≡ count }
-    requires few { count ≤ MOST_POINTS }
-    ensures { IfOk result (λ places. arc_value places ≡ old.now ++ added.now) }
-{
-    let mut points = Vec::with_capacity(alloc, count as usize)?;
-    for v in 0..old.len() {
-        points.push_reserved(old.get(v));
-    }
-    points.extend_from_slice(added)?;
-    Positions::after(alloc, old, PointList::of(points))
-}
-
-/// The places of so many points: those of before, and behind them those of new points. Without new points they are
-/// shared, and nothing is copied.
+/// The places of before, and behind them those of new points. Without new points they are shared, and nothing is
+/// copied.
 pub fn with_added(
     alloc: Global,
     old: &Arc<Positions>,
     added: &[Point],
-    count: u32,
 ) -> Result<Arc<Positions>, NoMemory>
-    requires count { length (arc_value old.now) + length added.now ≡ count }
-    requires few { count ≤ MOST_POINTS }
+    requires { length (arc_value old.now) + length added.now ≤ MOST_POINTS }
     ensures { IfOk result (λ places. arc_value places ≡ arc_value old.now ++ added.now) }
 {
     if added.is_empty() {
         Ok(old.clone()?)
     } else {
-        joined(alloc, count, old, added)
+        old.joined(alloc, added)
     }
 }

@@ -48,7 +48,8 @@ fn edited_places(
 {
     let edits = &job.plan(k).edits;
     let added = make_edits(alloc, topo, edits.items())?;
-    let after = with_added(alloc, places, &added, topo.points())?;
+    let _few = topo.points();
+    let after = with_added(alloc, places, &added)?;
     Ok(after)
 }
 

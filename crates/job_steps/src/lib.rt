@@ -11,7 +11,7 @@ mod maker;
 mod written;
 
 pub use maker::{Maker, first_step};
-pub use written::mesh_of;
+pub use written::{mesh_of, places_of};
 
 #[cfg(test)]
 mod tests;

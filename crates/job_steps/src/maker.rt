@@ -171,9 +171,9 @@ impl Maker {
     /// NoMemory.
     ///
     /// The edits of the plan cost what they cost in place, and of the cells and the neighbours the chunks that they
-    /// change are copied. The new places are computed in one pass over the points, by the threads together, and for a
-    /// relaxation over all neighbours; where the plan adds points the places are copied once before. A plan that stays
-    /// and adds no point looks at no place.
+    /// change are copied. Where the plan adds points, the places behind the full chunks are copied. The new places are
+    /// computed in one pass over the points, by the threads together, and for a relaxation over all neighbours; a plan
+    /// that stays computes none.
     pub fn next<R: Threads + Sync>(&mut self, rt: &R, alloc: Global) -> Result<Step, NoMemory>
         requires { self.old.made < steps self.old.job }
         ensures step { IfOk result (λ step. step ≡ step_of self.old.job (self.old.made + 1)) }

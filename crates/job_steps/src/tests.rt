@@ -1,7 +1,8 @@
 //! Steps of small jobs beside meshes that were worked out by hand.
 use crate::{Maker, first_step, mesh_of};
-use mesh_base::{Cell, CellList, Mesh, Point, PointList};
+use mesh_base::{Mesh, Point};
 use run_script::Job;
+use sample_meshes::block_mesh;
 use script_format::read_script;
 use std::alloc::Global;
 use std::sync::Arc;
@@ -141,42 +142,19 @@ const CASES: &[Case] = &[
     },
 ];
 
-fn points(alloc: Global, places: &[[i32; 3]]) -> Result<Vec<Point>, Fail> {
-    let mut list = Vec::new(alloc);
-    for at in places {
-        let [x, y, z] = *at;
-        list.push(Point::new(x, y, z).ok_or("place")?)?;
-    }
-    Ok(list)
-}
-
-fn cells(alloc: Global, corners: &[[u32; 4]]) -> Result<Vec<Option<Cell>>, Fail> {
-    let mut list = Vec::new(alloc);
-    for four in corners {
-        list.push(Cell::new(*four))?;
-    }
-    Ok(list)
+// The mesh with these places and cells.
+fn meshed(alloc: Global, places: &[[i32; 3]], corners: &[[u32; 4]]) -> Result<Mesh, Fail> {
+    Ok(sample_meshes::mesh_of(alloc, places, corners)?.ok_or("mesh")?)
 }
 
 // The job of a mesh and of a script.
-fn job_of(
-    alloc: Global,
-    points: Vec<Point>,
-    cells: Vec<Option<Cell>>,
-    text: &str,
-) -> Result<Arc<Job>, Fail> {
+fn job_of(alloc: Global, mesh: Mesh, text: &str) -> Result<Arc<Job>, Fail> {
     if text.len() > 1000 {
         return Err(Fail::new("script"));
     }
-    let mesh = Mesh::new(PointList::of(points), CellList::of(cells)).ok_or("limits")?;
-    let script = match read_script(alloc, text.as_bytes()) {
-        Ok(script) => script,
-        Err(fault) => return Err(Fail::new(format_args!("{fault:?}"))),
-    };
-    match Job::check(alloc, mesh, script) {
-        Ok(job) => Ok(Arc::new(alloc, job)?),
-        Err(fault) => Err(Fail::new(format_args!("{fault:?}"))),
-    }
+    let script = read_script(alloc, text.as_bytes())?;
+    let job = Job::check(alloc, mesh, script)?;
+    Ok(Arc::new(alloc, job)?)
 }
 
 // The last step of the job, made by one thread.
@@ -222,9 +200,8 @@ fn last_in_threads(
 // Whether the step's mesh has the places and cells that are wanted.
 fn has_mesh(alloc: Global, step: &Step, wanted: &Case) -> Result<bool, Fail> {
     let mesh = mesh_of(alloc, step)?;
-    let places = points(alloc, wanted.moved)?;
-    let cells = cells(alloc, wanted.cells)?;
-    Ok(mesh.points() == places.as_slice() && mesh.cells() == cells.as_slice())
+    let other = meshed(alloc, wanted.moved, wanted.cells)?;
+    Ok(mesh.points() == other.points() && mesh.cells() == other.cells())
 }
 
 // Whether its points have these neighbours, and are so many.
@@ -249,8 +226,8 @@ fn is_as_wanted(alloc: Global, step: &Step, wanted: &Case) -> Result<bool, Fail>
 
 // Whether each way to make the last step of a job makes the one that is wanted.
 fn is_made(rt: &(impl Threads + Sync), alloc: Global, wanted: &Case) -> Result<bool, Fail> {
-    let places = points(alloc, wanted.places)?;
-    let job = job_of(alloc, places, cells(alloc, ONE_CELL)?, wanted.script)?;
+    let mesh = meshed(alloc, wanted.places, ONE_CELL)?;
+    let job = job_of(alloc, mesh, wanted.script)?;
     let alone = last_alone(alloc, &job)?;
     let passed = last_passed(alloc, &job)?;
     let other = last_in_threads(rt, alloc, &job)?;
@@ -277,7 +254,7 @@ fn steps_are_made_by_their_plans(rt: HostRuntime) -> Result<(), Fail> {
 fn steps_have_their_shares(rt: HostRuntime) -> Result<(), Fail> {
     let alloc = rt.alloc();
     let text = "octopus script 1\nsession\nsession\nend\n";
-    let job = job_of(alloc, points(alloc, SAMPLE)?, cells(alloc, ONE_CELL)?, text)?;
+    let job = job_of(alloc, meshed(alloc, SAMPLE, ONE_CELL)?, text)?;
     let (step, _maker) = first_step(alloc, job)?;
     let mut shares = Shares::make(alloc, step)?;
     assert_eq!(rt; shares.count(), 3);
@@ -287,43 +264,6 @@ fn steps_have_their_shares(rt: HostRuntime) -> Result<(), Fail> {
     assert_eq!(rt; shares.count(), 3);
     assert_eq!(rt; shares.step().points(), 4);
     Ok(())
-}
-
-// The points of a block of 16 cubes a side, each of which is 16 wide: 4,913 in two chunks.
-fn block_points(alloc: Global) -> Result<Vec<Point>, Fail> {
-    let mut list = Vec::with_capacity(alloc, 4_913)?;
-    for n in 0i32..4_913 {
-        let (i, j, k) = (n % 17, n / 17 % 17, n / 289);
-        list.push(Point::new(16 * i, 16 * j, 16 * k).ok_or("place")?)?;
-    }
-    Ok(list)
-}
-
-// The six cells of a cube whose least corner is p: each lies along the long diagonal.
-fn cube(p: u32) -> [[u32; 4]; 6] {
-    let (x, y, z) = (p.wrapping_add(1), p.wrapping_add(17), p.wrapping_add(289));
-    let (xy, xz, yz) = (p.wrapping_add(18), p.wrapping_add(290), p.wrapping_add(306));
-    let xyz = p.wrapping_add(307);
-    [
-        [p, x, xy, xyz],
-        [p, x, xz, xyz],
-        [p, y, xy, xyz],
-        [p, y, yz, xyz],
-        [p, z, xz, xyz],
-        [p, z, yz, xyz],
-    ]
-}
-
-// The cells of that block.
-fn block_cells(alloc: Global) -> Result<Vec<Option<Cell>>, Fail> {
-    let mut list = Vec::with_capacity(alloc, 24_576)?;
-    for n in 0u32..4_096 {
-        let (i, j, k) = (n % 16, n / 16 % 16, n / 256);
-        for four in cube(i + 17 * j + 289 * k) {
-            list.push(Cell::new(four))?;
-        }
-    }
-    Ok(list)
 }
 
 // How many live cells the step has, and the place of its last point.
@@ -343,12 +283,13 @@ fn first_two(alloc: Global, job: Arc<Job>) -> Result<(Step, Step), Fail> {
     Ok((held, next))
 }
 
-// A step that is held stays as it is while the next one is made, with which it shares chunks.
+// A step that is held stays as it is while the next one is made, with which it shares chunks: the block of 16 cubes a
+// side has 4,913 points in two of them, and 24,576 cells.
 #[test]
 fn held_steps_stay(rt: HostRuntime) -> Result<(), Fail> {
     let alloc = rt.alloc();
     let text = "octopus script 1\nremove 0\nstay\nend\n";
-    let job = job_of(alloc, block_points(alloc)?, block_cells(alloc)?, text)?;
+    let job = job_of(alloc, block_mesh(alloc, 16)?, text)?;
     let (held, next) = first_two(alloc, job)?;
     let last = Point::new(256, 256, 256);
     assert_eq!(rt; seen_of(alloc, &held)?, (24_576, last));

@@ -25,117 +25,119 @@ const SPLITS: &str =
 const HELD: &str =
     "octopus script 2\nshift 1 0 0\nsession\nwait 1\nhold\nbox 0 0 0 1 0 0\nbox 17 0 0 17 0 0\nfree\nbox 1 16 0 1 16 0\nend\n";
 
+const BAD_TEXTS: [(&str, ScriptKind, u32); 20] = [
+    ("\n", ScriptKind::Header, 1),
+    ("octopus script 1 1\n", ScriptKind::Header, 1),
+    ("# octopus script 1\n", ScriptKind::Header, 1),
+    (
+        "octopus script 1\nshift 4.0 0 0\nend\n",
+        ScriptKind::Number,
+        2,
+    ),
+    ("octopus script 1\nadd 0 1 2 -1\n", ScriptKind::Range, 2),
+    (
+        "octopus script 1\nremove 4294967296\n",
+        ScriptKind::Range,
+        2,
+    ),
+    ("octopus script 1\nturn w\n", ScriptKind::Word, 2),
+    ("octopus script 1\nshake 65536 1\n", ScriptKind::Range, 2),
+    ("octopus script 1\nshake 65535 1001\n", ScriptKind::Range, 2),
+    ("octopus script 1\npull 0 0 0 1 0\n", ScriptKind::Range, 2),
+    (
+        "octopus script 1\npull 0 0 0 1025 1\n",
+        ScriptKind::Range,
+        2,
+    ),
+    (
+        "octopus script 1\npull 0 0 0 -1024 1025\n",
+        ScriptKind::Range,
+        2,
+    ),
+    ("octopus script 1\nsession\nstay\n", ScriptKind::Order, 3),
+    (
+        "octopus script 1\npoint 1 2 3\nsession\n",
+        ScriptKind::Order,
+        3,
+    ),
+    ("octopus script 1\nwait 1\n", ScriptKind::Order, 2),
+    (
+        "octopus script 1\nsession\nwait 10001\n",
+        ScriptKind::Range,
+        3,
+    ),
+    (
+        "octopus script 1\nsession\nbox 0 0 0 0 0\n",
+        ScriptKind::Word,
+        3,
+    ),
+    ("octopus script 1\nend\nfly\n", ScriptKind::Word, 3),
+    ("octopus script 1\nend\nend\n", ScriptKind::Order, 3),
+    (
+        "octopus script 1\nend\n # x\n \nstay\n",
+        ScriptKind::Order,
+        5,
+    ),
+];
+
 #[test]
 fn faults_of_texts(rt: HostRuntime) {
     let alloc = rt.alloc();
-    let table: [(&str, ScriptKind, u32); 20] = [
-        ("\n", ScriptKind::Header, 1),
-        ("octopus script 1 1\n", ScriptKind::Header, 1),
-        ("# octopus script 1\n", ScriptKind::Header, 1),
-        (
-            "octopus script 1\nshift 4.0 0 0\nend\n",
-            ScriptKind::Number,
-            2,
-        ),
-        ("octopus script 1\nadd 0 1 2 -1\n", ScriptKind::Range, 2),
-        (
-            "octopus script 1\nremove 4294967296\n",
-            ScriptKind::Range,
-            2,
-        ),
-        ("octopus script 1\nturn w\n", ScriptKind::Word, 2),
-        ("octopus script 1\nshake 65536 1\n", ScriptKind::Range, 2),
-        ("octopus script 1\nshake 65535 1001\n", ScriptKind::Range, 2),
-        ("octopus script 1\npull 0 0 0 1 0\n", ScriptKind::Range, 2),
-        (
-            "octopus script 1\npull 0 0 0 1025 1\n",
-            ScriptKind::Range,
-            2,
-        ),
-        (
-            "octopus script 1\npull 0 0 0 -1024 1025\n",
-            ScriptKind::Range,
-            2,
-        ),
-        ("octopus script 1\nsession\nstay\n", ScriptKind::Order, 3),
-        (
-            "octopus script 1\npoint 1 2 3\nsession\n",
-            ScriptKind::Order,
-            3,
-        ),
-        ("octopus script 1\nwait 1\n", ScriptKind::Order, 2),
-        (
-            "octopus script 1\nsession\nwait 10001\n",
-            ScriptKind::Range,
-            3,
-        ),
-        (
-            "octopus script 1\nsession\nbox 0 0 0 0 0\n",
-            ScriptKind::Word,
-            3,
-        ),
-        ("octopus script 1\nend\nfly\n", ScriptKind::Word, 3),
-        ("octopus script 1\nend\nend\n", ScriptKind::Order, 3),
-        (
-            "octopus script 1\nend\n # x\n \nstay\n",
-            ScriptKind::Order,
-            5,
-        ),
-    ];
-    for (text, kind, line) in table {
+    for (text, kind, line) in BAD_TEXTS {
         let found = fault(&rt, alloc, text.as_bytes());
         assert_eq!(rt; found, bad(kind, line), "{text}");
     }
 }
 
+const BAD_HOLDS: [(&str, ScriptKind, u32); 10] = [
+    (
+        "octopus script 2\nsession\nfree\nend\n",
+        ScriptKind::Order,
+        3,
+    ),
+    (
+        "octopus script 2\nsession\nhold\nend\n",
+        ScriptKind::Order,
+        4,
+    ),
+    (
+        "octopus script 2\nsession\nhold\nfree\nend\n",
+        ScriptKind::Order,
+        4,
+    ),
+    (
+        "octopus script 2\nsession\nhold\nwait 0\nend\n",
+        ScriptKind::Order,
+        4,
+    ),
+    (
+        "octopus script 2\nsession\nhold\nbox 0 0 0 0 0 0\nhold\n",
+        ScriptKind::Order,
+        5,
+    ),
+    (
+        "octopus script 2\nsession\nhold\nbox 0 0 0 0 0 0\nsession\n",
+        ScriptKind::Order,
+        5,
+    ),
+    (
+        "octopus script 2\nsession\nhold\nbox 0 0 0 0 0 0\nend\n",
+        ScriptKind::Order,
+        5,
+    ),
+    ("octopus script 2\nfree\n", ScriptKind::Order, 2),
+    ("octopus script 2\nsession\nhold 1\n", ScriptKind::Word, 3),
+    (
+        "octopus script 1\nsession\nhold\nend\n",
+        ScriptKind::Word,
+        3,
+    ),
+];
+
 #[test]
 fn faults_of_holds(rt: HostRuntime) {
     let alloc = rt.alloc();
-    let table: [(&str, ScriptKind, u32); 10] = [
-        (
-            "octopus script 2\nsession\nfree\nend\n",
-            ScriptKind::Order,
-            3,
-        ),
-        (
-            "octopus script 2\nsession\nhold\nend\n",
-            ScriptKind::Order,
-            4,
-        ),
-        (
-            "octopus script 2\nsession\nhold\nfree\nend\n",
-            ScriptKind::Order,
-            4,
-        ),
-        (
-            "octopus script 2\nsession\nhold\nwait 0\nend\n",
-            ScriptKind::Order,
-            4,
-        ),
-        (
-            "octopus script 2\nsession\nhold\nbox 0 0 0 0 0 0\nhold\n",
-            ScriptKind::Order,
-            5,
-        ),
-        (
-            "octopus script 2\nsession\nhold\nbox 0 0 0 0 0 0\nsession\n",
-            ScriptKind::Order,
-            5,
-        ),
-        (
-            "octopus script 2\nsession\nhold\nbox 0 0 0 0 0 0\nend\n",
-            ScriptKind::Order,
-            5,
-        ),
-        ("octopus script 2\nfree\n", ScriptKind::Order, 2),
-        ("octopus script 2\nsession\nhold 1\n", ScriptKind::Word, 3),
-        (
-            "octopus script 1\nsession\nhold\nend\n",
-            ScriptKind::Word,
-            3,
-        ),
-    ];
-    for (text, kind, line) in table {
+    for (text, kind, line) in BAD_HOLDS {
         let found = fault(&rt, alloc, text.as_bytes());
         assert_eq!(rt; found, bad(kind, line), "{text}");
     }
@@ -169,49 +171,51 @@ fn check_prefixes(rt: &impl Abort, alloc: Global, text: &str, table: &[(usize, S
     }
 }
 
+const SPLIT_FAULTS: [(usize, ScriptKind, u32); 14] = [
+    (0, ScriptKind::Truncated, 0),
+    (15, ScriptKind::Header, 1),
+    (17, ScriptKind::Truncated, 1),
+    (29, ScriptKind::Word, 2),
+    (31, ScriptKind::Truncated, 2),
+    (43, ScriptKind::Word, 3),
+    (45, ScriptKind::Truncated, 3),
+    (48, ScriptKind::Word, 4),
+    (50, ScriptKind::Truncated, 4),
+    (56, ScriptKind::Word, 5),
+    (58, ScriptKind::Truncated, 5),
+    (72, ScriptKind::Word, 6),
+    (74, ScriptKind::Truncated, 6),
+    (76, ScriptKind::Word, 7),
+];
+
+const HELD_FAULTS: [(usize, ScriptKind, u32); 20] = [
+    (0, ScriptKind::Truncated, 0),
+    (15, ScriptKind::Header, 1),
+    (17, ScriptKind::Truncated, 1),
+    (27, ScriptKind::Word, 2),
+    (29, ScriptKind::Truncated, 2),
+    (35, ScriptKind::Word, 3),
+    (37, ScriptKind::Truncated, 3),
+    (42, ScriptKind::Word, 4),
+    (44, ScriptKind::Truncated, 4),
+    (47, ScriptKind::Word, 5),
+    (49, ScriptKind::Truncated, 5),
+    (63, ScriptKind::Word, 6),
+    (65, ScriptKind::Truncated, 6),
+    (81, ScriptKind::Word, 7),
+    (83, ScriptKind::Truncated, 7),
+    (86, ScriptKind::Word, 8),
+    (88, ScriptKind::Truncated, 8),
+    (104, ScriptKind::Word, 9),
+    (106, ScriptKind::Truncated, 9),
+    (108, ScriptKind::Word, 10),
+];
+
 #[test]
 fn prefixes_of_scripts(rt: HostRuntime) {
     let alloc = rt.alloc();
-    let splits: [(usize, ScriptKind, u32); 14] = [
-        (0, ScriptKind::Truncated, 0),
-        (15, ScriptKind::Header, 1),
-        (17, ScriptKind::Truncated, 1),
-        (29, ScriptKind::Word, 2),
-        (31, ScriptKind::Truncated, 2),
-        (43, ScriptKind::Word, 3),
-        (45, ScriptKind::Truncated, 3),
-        (48, ScriptKind::Word, 4),
-        (50, ScriptKind::Truncated, 4),
-        (56, ScriptKind::Word, 5),
-        (58, ScriptKind::Truncated, 5),
-        (72, ScriptKind::Word, 6),
-        (74, ScriptKind::Truncated, 6),
-        (76, ScriptKind::Word, 7),
-    ];
-    check_prefixes(&rt, alloc, SPLITS, &splits);
-    let held: [(usize, ScriptKind, u32); 20] = [
-        (0, ScriptKind::Truncated, 0),
-        (15, ScriptKind::Header, 1),
-        (17, ScriptKind::Truncated, 1),
-        (27, ScriptKind::Word, 2),
-        (29, ScriptKind::Truncated, 2),
-        (35, ScriptKind::Word, 3),
-        (37, ScriptKind::Truncated, 3),
-        (42, ScriptKind::Word, 4),
-        (44, ScriptKind::Truncated, 4),
-        (47, ScriptKind::Word, 5),
-        (49, ScriptKind::Truncated, 5),
-        (63, ScriptKind::Word, 6),
-        (65, ScriptKind::Truncated, 6),
-        (81, ScriptKind::Word, 7),
-        (83, ScriptKind::Truncated, 7),
-        (86, ScriptKind::Word, 8),
-        (88, ScriptKind::Truncated, 8),
-        (104, ScriptKind::Word, 9),
-        (106, ScriptKind::Truncated, 9),
-        (108, ScriptKind::Word, 10),
-    ];
-    check_prefixes(&rt, alloc, HELD, &held);
+    check_prefixes(&rt, alloc, SPLITS, &SPLIT_FAULTS);
+    check_prefixes(&rt, alloc, HELD, &HELD_FAULTS);
 }
 
 #[test]
@@ -286,66 +290,67 @@ fn job(rt: &impl Abort, alloc: Global, text: &[u8]) -> Result<Job, ScriptFault> 
     Job::check(alloc, mesh, script)
 }
 
+const BAD_JOBS: [(&str, ScriptKind, u32); 14] = [
+    (
+        "octopus script 1\nsession\nwait 1\nbox 0 0 0 1 1 1\nend\n",
+        ScriptKind::NoStep,
+        3,
+    ),
+    ("octopus script 1\nshift 1 0\nend\n", ScriptKind::Word, 2),
+    (
+        "octopus script 1\nshift a 0 0\nend\n",
+        ScriptKind::Number,
+        2,
+    ),
+    (
+        "octopus script 1\nshift 1073741825 0 0\nend\n",
+        ScriptKind::Range,
+        2,
+    ),
+    (
+        "octopus script 1\nsession\nbox 4 0 0 0 0 0\nend\n",
+        ScriptKind::Box,
+        3,
+    ),
+    ("octopus script 1\npoint 1 1 1\nend\n", ScriptKind::Order, 3),
+    ("octopus script 1\nstay\n", ScriptKind::Truncated, 2),
+    (
+        "octopus script 1\nadd 0 1 2 9\nstay\nend\n",
+        ScriptKind::NoPoint,
+        2,
+    ),
+    (
+        "octopus script 1\nadd 0 1 2 2\nstay\nend\n",
+        ScriptKind::SameVertex,
+        2,
+    ),
+    (
+        "octopus script 1\nremove 0\nremove 0\nstay\nend\n",
+        ScriptKind::NoCell,
+        3,
+    ),
+    ("octopus script 9\nend\n", ScriptKind::Header, 1),
+    (
+        "octopus script 1\nadd 9 9 2 2\nstay\nend\n",
+        ScriptKind::NoPoint,
+        2,
+    ),
+    (
+        "octopus script 1\nsplit 1 0 0 0\nstay\nend\n",
+        ScriptKind::NoCell,
+        2,
+    ),
+    (
+        "octopus script 1\nremove 1\nstay\nsession\nwait 9\nend\n",
+        ScriptKind::NoCell,
+        2,
+    ),
+];
+
 #[test]
 fn faults_of_jobs(rt: HostRuntime) {
     let alloc = rt.alloc();
-    let table: [(&str, ScriptKind, u32); 14] = [
-        (
-            "octopus script 1\nsession\nwait 1\nbox 0 0 0 1 1 1\nend\n",
-            ScriptKind::NoStep,
-            3,
-        ),
-        ("octopus script 1\nshift 1 0\nend\n", ScriptKind::Word, 2),
-        (
-            "octopus script 1\nshift a 0 0\nend\n",
-            ScriptKind::Number,
-            2,
-        ),
-        (
-            "octopus script 1\nshift 1073741825 0 0\nend\n",
-            ScriptKind::Range,
-            2,
-        ),
-        (
-            "octopus script 1\nsession\nbox 4 0 0 0 0 0\nend\n",
-            ScriptKind::Box,
-            3,
-        ),
-        ("octopus script 1\npoint 1 1 1\nend\n", ScriptKind::Order, 3),
-        ("octopus script 1\nstay\n", ScriptKind::Truncated, 2),
-        (
-            "octopus script 1\nadd 0 1 2 9\nstay\nend\n",
-            ScriptKind::NoPoint,
-            2,
-        ),
-        (
-            "octopus script 1\nadd 0 1 2 2\nstay\nend\n",
-            ScriptKind::SameVertex,
-            2,
-        ),
-        (
-            "octopus script 1\nremove 0\nremove 0\nstay\nend\n",
-            ScriptKind::NoCell,
-            3,
-        ),
-        ("octopus script 9\nend\n", ScriptKind::Header, 1),
-        (
-            "octopus script 1\nadd 9 9 2 2\nstay\nend\n",
-            ScriptKind::NoPoint,
-            2,
-        ),
-        (
-            "octopus script 1\nsplit 1 0 0 0\nstay\nend\n",
-            ScriptKind::NoCell,
-            2,
-        ),
-        (
-            "octopus script 1\nremove 1\nstay\nsession\nwait 9\nend\n",
-            ScriptKind::NoCell,
-            2,
-        ),
-    ];
-    for (text, kind, line) in table {
+    for (text, kind, line) in BAD_JOBS {
         match job(&rt, alloc, text.as_bytes()) {
             Ok(_) => panic!(rt; "{text}"),
             Err(found) => assert_eq!(rt; found, ScriptFault::Bad { kind, line }, "{text}"),

@@ -1,11 +1,10 @@
 -- lemmas on lists in chunks
-use Rattle.std.proofs.Common.{◌≡◌, ℕ, zero, suc, ◌+◌, ◌*◌, ◌-◌, ◌/◌, ◌%◌, ◌<◌, ◌≤◌, min, List, [], ◌∷◌, ◌++◌, length, get_or, set, take, drop, flat_map, Option, Some, None, IfSome, refl, sym, ap, subst, ◌∙◌, arith, length-append}
-use Rattle.std.proofs.Math.Seq.{take-add}
-use Rattle.std.proofs.lemmas.List.{get_or_default, take_all, take_min, length-take, length-drop, get_or-take, get_or-drop}
+use Rattle.std.proofs.Common.{◌≡◌, ℕ, zero, suc, ◌+◌, ◌*◌, ◌-◌, ◌/◌, ◌%◌, ◌<◌, ◌≤◌, min, List, [], ◌∷◌, ◌++◌, length, get_or, take, drop, flat_map, IfSome, refl, sym, ap, subst, ◌∙◌, arith, length-append}
+use Rattle.std.proofs.Math.Seq.{take-add, drop-nil}
+use Rattle.std.proofs.lemmas.List.{get_or_default, take_all, take_min, drop_all, length-take, length-drop, get_or-take, get_or-drop, take-append-le, drop-append-le}
 use Rattle.std.proofs.lemmas.Option.{slice_get-get_or}
 use Rattle.std.proofs.lemmas.Grind.{flat_map-append}
-use Rattle.std.specs.List.{slice_get}
-use Rattle.topo.specs.Chunks.{chunk_of, Each, Kept, AreFront, AreChunks}
+use Rattle.topo.specs.Chunks.{chunk_of, full_chunks, behind_full, Each, AreFront, AreChunks}
 
 -- what holds of each entry
 pub each-push : {C : Type 0} (P : ℕ → C → Type 0) (cs : List C) (c : C) → Each P cs → P (length cs) c → Each P (cs ++ c ∷ [])
@@ -66,3 +65,31 @@ module _ {A : Type 0} (xs : List A) (v : ℕ) (within : v < length xs) where
     entry-chunk r d e =
         let at : 4096 * (v / 4096) + v % 4096 ≡ v = omega arith in
         e ∙ ap (λ l. get_or l (v % 4096) r) is ∙ get_or-chunk xs (v / 4096) (v % 4096) r (omega arith) ∙ ap (λ k. get_or xs k r) at ∙ get_or_default xs v r d within
+
+-- what stands behind the full chunks, which is less than a chunk
+pub behind-chunk : {A C : Type 0} (entries : C → List A) (xs : List A) (cs : List C) (c : C) → full_chunks xs < length cs → c ≡ get_or cs (full_chunks xs) c → AreChunks entries xs cs → entries c ≡ behind_full xs
+behind-chunk entries xs cs c lt e h = each-at (λ k d. entries d ≡ chunk_of xs k) cs (full_chunks xs) c lt e h.front.each
+    ∙ take_all 4096 (behind_full xs) (omega (arith, length-drop (4096 * full_chunks xs) xs))
+
+pub behind-none : {A : Type 0} (xs : List A) (n : ℕ) → length xs ≤ 4096 * n → n ≤ full_chunks xs → behind_full xs ≡ []
+behind-none xs n all le = drop_all (4096 * full_chunks xs) xs (omega (arith, all, le))
+
+-- the chunks of a list with another behind it: the full ones of the first, and then those of what stands behind these
+pub chunk-longer : {A : Type 0} (xs ys : List A) (k : ℕ) → k < full_chunks xs → chunk_of (xs ++ ys) k ≡ chunk_of xs k
+chunk-longer xs ys k lt =
+    ap (take 4096) (drop-append-le (4096 * k) xs ys (omega (arith, lt)))
+    ∙ take-append-le 4096 (drop (4096 * k) xs) ys (omega (arith, lt, length-drop (4096 * k) xs))
+
+pub chunk-behind : {A : Type 0} (xs ys rest : List A) (k : ℕ) → rest ≡ behind_full xs ++ ys → chunk_of rest k ≡ chunk_of (xs ++ ys) (full_chunks xs + k)
+chunk-behind xs ys rest k e =
+    let n = 4096 * full_chunks xs in
+    let at : 4096 * (full_chunks xs + k) ≡ n + 4096 * k = omega arith in
+    ap (λ l. chunk_of l k) (e ∙ sym (drop-append-le n xs ys (omega arith)))
+    ∙ ap (take 4096) (sym (drop-sum n (4096 * k) (xs ++ ys)) ∙ ap (λ i. drop i (xs ++ ys)) (sym at))
+  where
+    drop-sum : {A : Type 0} (a b : ℕ) (l : List A) → drop (a + b) l ≡ drop b (drop a l)
+    drop-sum zero b l = ap (λ n. drop n l) (omega arith)
+    drop-sum (suc a) b [] = drop-nil (suc a + b) ∙ sym (drop-nil b)
+    drop-sum (suc a) b (x ∷ l) =
+        let n : suc a + b ≡ suc (a + b) = omega arith in
+        ap (λ n. drop n (x ∷ l)) n ∙ drop-sum a b l

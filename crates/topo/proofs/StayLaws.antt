@@ -1,10 +1,10 @@
 -- which chunks an edit leaves as they are
-use Rattle.std.proofs.Common.{◌≡◌, ◌≢◌, ◌⊎◌, inl, inr, ℕ, zero, suc, ◌+◌, ◌*◌, ◌-◌, ◌/◌, ◌<◌, ◌≤◌, Bool, true, false, not, eqb, ◌&&◌, ◌||◌, List, [], ◌∷◌, ◌++◌, length, get_or, set, take, drop, filter, Option, Some, None, IfSome, refl, sym, ap, subst, ◌∙◌, arith, length-append}
-use Rattle.std.proofs.lemmas.List.{length-set, take-append-le, drop-append-le, length-drop, length-take, take_all, drop_all, drop-set-lt, drop-set-add, take-set-le}
+use Rattle.std.proofs.Common.{◌≡◌, ◌≢◌, ◌⊎◌, inl, inr, ℕ, zero, suc, ◌+◌, ◌*◌, ◌-◌, ◌/◌, ◌<◌, ◌≤◌, Bool, true, false, not, eqb, ◌&&◌, ◌||◌, List, [], ◌∷◌, ◌++◌, length, set, take, drop, filter, Option, Some, None, refl, sym, ap, subst, ◌∙◌, arith, length-append}
+use Rattle.std.proofs.lemmas.List.{length-set, take-append-le, drop-append-le, length-drop, length-take, drop-set-lt, drop-set-add, take-set-le}
 use Rattle.std.proofs.lemmas.Bool.{ne_eqb}
-use Rattle.std.specs.List.{list_any, range_with_len, slice_get}
+use Rattle.std.specs.List.{list_any, range_with_len}
 use Rattle.std.specs.Option.{IsSome, option_map_or}
-use Rattle.mesh_base.specs.Mesh.{MeshView, corners_of, Corners, IsWithin, AreWithin, has_corner, live, is_vertex, are_neighbours}
+use Rattle.mesh_base.specs.Mesh.{MeshView, corners_of, Corners, AreWithin, has_corner, live, are_neighbours}
 use Rattle.mesh_base.specs.Edit.{cell_at, quarters, split_cells, edited, EditFits}
 use Rattle.mesh_base.specs.declared.edit.Edit.{Edit}
 use Rattle.mesh_base.specs.declared.edit.Edit.TheVariants.{Point, Add, Remove, Split}

@@ -1,9 +1,16 @@
 -- lists in chunks of 4,096 entries
-use Rattle.std.specs.Prelude.{◌≡◌, ℕ, ◌*◌, ◌≤◌, List, length, take, drop, flat_map, slice_get, Option, IfSome}
+use Rattle.std.specs.Prelude.{◌≡◌, ℕ, ◌*◌, ◌/◌, ◌≤◌, List, length, take, drop, flat_map, slice_get, Option, IfSome}
 
 -- chunk k of a list: its entries from number 4096 k on, of which it has at most 4,096
 abbrev pub chunk_of : {A : Type 0} → List A → ℕ → List A
 chunk_of xs k = take 4096 (drop (4096 * k) xs)
+
+-- how many chunks are full, and what stands behind these
+abbrev pub full_chunks : {A : Type 0} → List A → ℕ
+full_chunks xs = length xs / 4096
+
+abbrev pub behind_full : {A : Type 0} → List A → List A
+behind_full xs = drop (4096 * full_chunks xs) xs
 
 -- P of each entry and its number
 abbrev pub Each : {C : Type 0} → (ℕ → C → Type 0) → List C → Type 0

@@ -1,5 +1,5 @@
 -- the neighbours of the points of a chunk
-use Rattle.std.specs.Prelude.{◌≡◌, ℕ, ◌+◌, ◌*◌, ◌<◌, List, length, filter}
+use Rattle.std.specs.Prelude.{ℕ, ◌+◌, ◌*◌, ◌<◌, List, length, filter}
 use Rattle.std.specs.List.{range_with_len}
 use Rattle.mesh_base.specs.Mesh.{are_neighbours}
 use Rattle.topo.specs.Topology.{Topology}

@@ -1,7 +1,6 @@
 -- what is kept beside the cells
-use Rattle.std.specs.Prelude.{◌≡◌, ℕ, ◌+◌, ◌-◌, ◌<◌, ◌≤◌, List, length, Option, filter, take, drop, slice_index}
-use Rattle.std.specs.List.{range_with_len}
-use Rattle.mesh_base.specs.Mesh.{Corners, is_surface, are_neighbours}
+use Rattle.std.specs.Prelude.{◌≡◌, ℕ, ◌+◌, ◌-◌, ◌≤◌, List, length, Option, take, drop, slice_index}
+use Rattle.mesh_base.specs.Mesh.{Corners}
 use Rattle.face_table.specs.Tally.{Tally, IsTallyOf}
 use Rattle.edge_table.specs.Pairs.{RowView, IsPairsOf}
 use Rattle.topo.specs.Topology.{IsTopology}

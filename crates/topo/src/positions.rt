@@ -1,8 +1,8 @@
 //! The places of the points of a step.
-ghost use Rattle.std.specs.Prelude.{◌≡◌, ◌==◌, ◌<◌, ◌≤◌, ◌*◌, List, pos, length, slice_index_or, IfOk, IfSome};
+ghost use Rattle.std.specs.Prelude.{◌≡◌, ◌==◌, ◌<◌, ◌≤◌, ◌*◌, ◌+◌, ◌++◌, List, pos, length, slice_index_or, IfOk, IfSome};
 ghost use Rattle.std.specs.Arc.{arc_value};
 ghost use Rattle.mesh_base.specs.Place.{Place};
-ghost use Rattle.topo.specs.Chunks.{chunk_of, AreChunks};
+ghost use Rattle.topo.specs.Chunks.{chunk_of, behind_full, AreChunks};
 
 use crate::chunks::{CHUNK, chunk_count, part_of};
 use mesh_base::{MOST_POINTS, NoMemory, Point, PointList};
@@ -130,6 +130,53 @@ impl Positions {
         ensures { IfOk result (λ positions. arc_value positions ≡ points) }
     {
         shared_with(alloc, &old.chunks, &points.into_items())
+    }
+
+    /// These places, and behind them those of `added`. Each full chunk is shared at the cost of one count; no place is
+    /// compared, and none is copied but those behind the full chunks.
+    pub fn joined(&self, alloc: Global, added: &[Point]) -> Result<Arc<Positions>, NoMemory>
+        requires { length self.now + length added.now ≤ MOST_POINTS }
+        ensures { IfOk result (λ positions. arc_value positions ≡ self.now ++ added.now) }
+    {
+        let positions = Positions {
+            len: self.len + added.len() as u32,
+            chunks: self.chunks_joined(alloc, added)?,
+        };
+        Ok(Arc::new(alloc, positions)?)
+    }
+
+    // The places behind the full chunks, and then those that are added.
+    fn rest_with(&self, alloc: Global, added: &[Point]) -> Result<Vec<Point>, NoMemory>
+        ensures { IfOk result (λ rest. rest.items ≡ behind_full self.now ++ added.now) }
+    {
+        let mut rest = Vec::new(alloc);
+        if let Some(chunk) = self.chunks.get(self.len as usize / CHUNK) {
+            rest.extend_from_slice(&chunk.points)?;
+        }
+        rest.extend_from_slice(added)?;
+        Ok(rest)
+    }
+
+    // Both together in chunks, of which the full ones are shared.
+    fn chunks_joined(
+        &self,
+        alloc: Global,
+        added: &[Point],
+    ) -> Result<Vec<Arc<PlaceChunk>>, NoMemory>
+        requires { length self.now + length added.now ≤ MOST_POINTS }
+        ensures { IfOk result (λ chunks. AreChunks arc_value (self.now ++ added.now) chunks.items) }
+    {
+        let rest = self.rest_with(alloc, added)?;
+        let full = self.len as usize / CHUNK;
+        let behind = chunk_count(rest.len());
+        let mut chunks = Vec::with_capacity(alloc, full + behind)?;
+        for k in 0..full {
+            chunks.push_reserved(self.chunks[k].clone()?);
+        }
+        for k in 0..behind {
+            chunks.push_reserved(chunk_with(alloc, None, part_of(&rest, k))?);
+        }
+        Ok(chunks)
     }
 
     /// How many points there are.

@@ -1,6 +1,7 @@
 //! Edits beside lists that were worked out by hand, and beside topologies that are built anew.
 use crate::{Positions, Shape, Topo};
 use mesh_base::{Cell, CellList, Edit, Mesh, Point, PointList};
+use sample_meshes::block_mesh;
 use std::alloc::Global;
 use std::sync::Arc;
 use std::test::Fail;
@@ -388,36 +389,44 @@ fn positions_keep_their_order(rt: HostRuntime) -> Result<(), Fail> {
     Ok(())
 }
 
-// The corners of the six cells of a cube, counted from its least one.
-const CUBE: [[u32; 4]; 6] = [
-    [0, 1, 22, 463],
-    [0, 1, 442, 463],
-    [0, 21, 22, 463],
-    [0, 21, 462, 463],
-    [0, 441, 442, 463],
-    [0, 441, 462, 463],
+// How many places there are, and how many of them are added to the others.
+const JOINS: &[(i32, i32)] = &[
+    (0, 0),
+    (1, 1),
+    (4_096, 4_095),
+    (4_097, 1),
+    (9_000, 9_000),
+    (9_000, 4_904),
+    (9_000, 4_903),
+    (10_000, 1_808),
+    (10_000, 0),
 ];
 
-// Cell n of a block of 20 cubes a side, whose points stand in rows of 21 and layers of 441.
-fn block_cell(n: u32) -> Option<Cell> {
-    let cube = n / 6;
-    let least = cube % 20 + cube / 20 % 20 * 21 + cube / 400 * 441;
-    let [a, b, c, d] = CUBE[n as usize % 6];
-    Cell::new([
-        least.wrapping_add(a),
-        least.wrapping_add(b),
-        least.wrapping_add(c),
-        least.wrapping_add(d),
-    ])
+// Whether positions of the first places with the others joined to them keep all, and stay what they are.
+fn joins(alloc: Global, places: &[Point], added: usize) -> Result<bool, Fail> {
+    if places.len() > 10_000 || added > places.len() {
+        return Err(Fail::new("limits"));
+    }
+    let (front, back) = places.split_at(places.len() - added);
+    let old = Positions::copied(alloc, front)?;
+    let new = old.joined(alloc, back)?;
+    Ok(has_places(&new, places) && has_places(&old, front))
 }
 
-// The first cells of the block.
-fn block(alloc: Global, count: u32) -> Result<Vec<Option<Cell>>, Fail> {
-    let mut cells = Vec::new(alloc);
-    for n in 0..count {
-        cells.push(block_cell(n))?;
+#[test]
+fn places_are_joined_in_their_order(rt: HostRuntime) -> Result<(), Fail> {
+    let alloc = rt.alloc();
+    for (count, added) in JOINS {
+        let places = row_but_for(alloc, *count, -1)?;
+        assert!(rt; joins(alloc, &places, *added as usize)?, "{count} {added}");
     }
-    Ok(cells)
+    Ok(())
+}
+
+// The first cells of the block of 20 cubes a side, which has 9,261 points and 48,000 cells.
+fn block(alloc: Global, count: usize) -> Result<Vec<Option<Cell>>, Fail> {
+    let mesh = block_mesh(alloc, 20)?;
+    Ok(mesh.cells().get(..count).ok_or("count")?.to_vec(alloc)?)
 }
 
 // Splits the first cells, so many, each round a point of its own.

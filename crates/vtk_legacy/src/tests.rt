@@ -7,80 +7,81 @@ use std::test::*;
 
 type Fault<'a> = (usize, usize, &'a [u8], MeshKind, u64);
 
+const ONE_CHANGE: [Fault; 32] = [
+    (0, 1, b"# VTK DataFile Version 3.0\n", MeshKind::Magic, 0),
+    (0, 1, b"# vtk DataFile Version 6.0\n", MeshKind::Version, 23),
+    (
+        0,
+        1,
+        b"# vtk DataFile Version 5.10\n",
+        MeshKind::Version,
+        23,
+    ),
+    (
+        0,
+        1,
+        b"# vtk DataFile Version 4.2345\n",
+        MeshKind::Version,
+        23,
+    ),
+    (2, 3, b"BINARY\n", MeshKind::Binary, 31),
+    (2, 3, b"text\n", MeshKind::Format, 31),
+    (3, 4, b"DATASET POLYDATA\n", MeshKind::DataSet, 45),
+    (4, 5, b"POINTS 1000000 int\n", MeshKind::Number, 106),
+    (4, 5, b"POINTS 1000001 int\n", MeshKind::Count, 70),
+    (4, 4, b"FIELD f 4294967295\n", MeshKind::Number, 91),
+    (
+        4,
+        4,
+        b"FIELD f 1\na 4294967295 4294967295 int\n",
+        MeshKind::Truncated,
+        174,
+    ),
+    (6, 7, b"4 0.5 0\n", MeshKind::NotWhole, 84),
+    (6, 7, b"4 1e-999 0\n", MeshKind::NotWhole, 84),
+    (
+        6,
+        7,
+        b"4 99999999999999999999.5 0\n",
+        MeshKind::NotWhole,
+        84,
+    ),
+    (6, 7, b"4 1073741825 0\n", MeshKind::Range, 84),
+    (
+        6,
+        7,
+        b"4 1e99999999999999999999999999999999999999 0\n",
+        MeshKind::Range,
+        84,
+    ),
+    (6, 7, b"4 nan 0\n", MeshKind::Number, 84),
+    (9, 10, b"CELLS 1 6\n", MeshKind::Size, 108),
+    (9, 10, b"CELLS 1 4\n", MeshKind::Size, 110),
+    (9, 10, b"CELLS 0 1\n", MeshKind::Size, 108),
+    (9, 10, b"CELLS 1 4294967295\n", MeshKind::Size, 108),
+    (9, 10, b"CELLS 4000000 4\n", MeshKind::Size, 116),
+    (9, 10, b"CELLS 4000000 5\n", MeshKind::Number, 126),
+    (10, 11, b"4294967295 0 1 2 3\n", MeshKind::Size, 110),
+    (10, 11, b"4294967296 0 1 2 3\n", MeshKind::Count, 110),
+    (10, 11, b"4 0 1 2 4\n", MeshKind::Index, 118),
+    (
+        10,
+        11,
+        b"4 0 1 2 9999999999999999999999999999999999999999\n",
+        MeshKind::Index,
+        118,
+    ),
+    (10, 11, b"4 0 1 2 2\n", MeshKind::SameVertex, 133),
+    (11, 12, b"CELL_TYPES 2\n", MeshKind::Count, 131),
+    (12, 13, b"12\n", MeshKind::CellType, 133),
+    (12, 13, b"5\n", MeshKind::CellSize, 133),
+    (13, 13, b"SCALARS\n", MeshKind::Keyword, 136),
+];
+
 #[test]
 fn one_change(rt: HostRuntime) -> Result<(), Fail> {
     let alloc = rt.alloc();
-    let faults: [Fault; 32] = [
-        (0, 1, b"# VTK DataFile Version 3.0\n", MeshKind::Magic, 0),
-        (0, 1, b"# vtk DataFile Version 6.0\n", MeshKind::Version, 23),
-        (
-            0,
-            1,
-            b"# vtk DataFile Version 5.10\n",
-            MeshKind::Version,
-            23,
-        ),
-        (
-            0,
-            1,
-            b"# vtk DataFile Version 4.2345\n",
-            MeshKind::Version,
-            23,
-        ),
-        (2, 3, b"BINARY\n", MeshKind::Binary, 31),
-        (2, 3, b"text\n", MeshKind::Format, 31),
-        (3, 4, b"DATASET POLYDATA\n", MeshKind::DataSet, 45),
-        (4, 5, b"POINTS 1000000 int\n", MeshKind::Number, 106),
-        (4, 5, b"POINTS 1000001 int\n", MeshKind::Count, 70),
-        (4, 4, b"FIELD f 4294967295\n", MeshKind::Number, 91),
-        (
-            4,
-            4,
-            b"FIELD f 1\na 4294967295 4294967295 int\n",
-            MeshKind::Truncated,
-            174,
-        ),
-        (6, 7, b"4 0.5 0\n", MeshKind::NotWhole, 84),
-        (6, 7, b"4 1e-999 0\n", MeshKind::NotWhole, 84),
-        (
-            6,
-            7,
-            b"4 99999999999999999999.5 0\n",
-            MeshKind::NotWhole,
-            84,
-        ),
-        (6, 7, b"4 1073741825 0\n", MeshKind::Range, 84),
-        (
-            6,
-            7,
-            b"4 1e99999999999999999999999999999999999999 0\n",
-            MeshKind::Range,
-            84,
-        ),
-        (6, 7, b"4 nan 0\n", MeshKind::Number, 84),
-        (9, 10, b"CELLS 1 6\n", MeshKind::Size, 108),
-        (9, 10, b"CELLS 1 4\n", MeshKind::Size, 110),
-        (9, 10, b"CELLS 0 1\n", MeshKind::Size, 108),
-        (9, 10, b"CELLS 1 4294967295\n", MeshKind::Size, 108),
-        (9, 10, b"CELLS 4000000 4\n", MeshKind::Size, 116),
-        (9, 10, b"CELLS 4000000 5\n", MeshKind::Number, 126),
-        (10, 11, b"4294967295 0 1 2 3\n", MeshKind::Size, 110),
-        (10, 11, b"4294967296 0 1 2 3\n", MeshKind::Count, 110),
-        (10, 11, b"4 0 1 2 4\n", MeshKind::Index, 118),
-        (
-            10,
-            11,
-            b"4 0 1 2 9999999999999999999999999999999999999999\n",
-            MeshKind::Index,
-            118,
-        ),
-        (10, 11, b"4 0 1 2 2\n", MeshKind::SameVertex, 133),
-        (11, 12, b"CELL_TYPES 2\n", MeshKind::Count, 131),
-        (12, 13, b"12\n", MeshKind::CellType, 133),
-        (12, 13, b"5\n", MeshKind::CellSize, 133),
-        (13, 13, b"SCALARS\n", MeshKind::Keyword, 136),
-    ];
-    for (from, to, lines, kind, place) in faults {
+    for (from, to, lines, kind, place) in ONE_CHANGE {
         let text = changed(alloc, from, to, lines)?;
         assert!(rt;
             has_fault(alloc, &text, kind, place),
@@ -210,119 +211,121 @@ fn realistic(rt: HostRuntime) -> Result<(), Fail> {
     Ok(())
 }
 
+const BAD_OFFSETS: [(&[u8], &[u8], MeshKind, u64); 15] = [
+    (
+        b"5.1",
+        b"CELLS 2 4\nOFFSETS vtktypeint64\n0 3\n",
+        MeshKind::Size,
+        133,
+    ),
+    (
+        b"5.1",
+        b"CELLS 2 4\nOFFSETS vtktypeint64\n1 4\n",
+        MeshKind::Size,
+        131,
+    ),
+    (
+        b"5.1",
+        b"CELLS 4 4\nOFFSETS vtktypeint64\n0 3 2 4\n",
+        MeshKind::Size,
+        135,
+    ),
+    (
+        b"5.1",
+        b"CELLS 3 4\nOFFSETS vtktypeint64\n0 5 4\n",
+        MeshKind::Size,
+        133,
+    ),
+    (
+        b"5.1",
+        b"CELLS 1 4\nOFFSETS vtktypeint64\n0\n",
+        MeshKind::Size,
+        131,
+    ),
+    (
+        b"5.1",
+        b"CELLS 2 4\nOFFSETS vtktypeint64\n0 4294967296\n",
+        MeshKind::Count,
+        133,
+    ),
+    (b"5.1", b"CELLS 4000002 4\n", MeshKind::Count, 106),
+    (b"5.1", b"CELLS 0 1\n", MeshKind::Size, 108),
+    (
+        b"5.1",
+        b"CELLS 0 0\nMETADATA\n\nOFFSETS int\n",
+        MeshKind::Keyword,
+        120,
+    ),
+    (
+        b"5.1",
+        b"CELLS 2 4\nOFSETS vtktypeint64\n",
+        MeshKind::Keyword,
+        110,
+    ),
+    (b"5.1", b"CELLS 1 5\n4 0 1 2 3\n", MeshKind::Keyword, 110),
+    (
+        b"5.0",
+        b"CELLS 2 4\nOFFSETS vtktypeint64\n",
+        MeshKind::Version,
+        23,
+    ),
+    (
+        b"3.0",
+        b"CELLS 2 4\nOFFSETS vtktypeint64\n",
+        MeshKind::Number,
+        110,
+    ),
+    (
+        b"5.1",
+        b"CELLS 2 4\nOFFSETS vtktypeint64\n0 4\nCONNECTIVITY vtktypeint64\n0 1 2 4\n",
+        MeshKind::Index,
+        167,
+    ),
+    (
+        b"5.1",
+        b"CELLS 2 4\nOFFSETS vtktypeint64\n0 4\nCONNECTIVITY vtktypeint64\n0 1 2 2\nCELL_TYPES 1\n10\n",
+        MeshKind::SameVertex,
+        182,
+    ),
+];
+
+const GOOD_OFFSETS: [(&[u8], &[u8], usize); 6] = [
+    (
+        b"5.1",
+        b"CELLS 2 4\nOFFSETS vtktypeint64\n0 4\nCONNECTIVITY vtktypeint64\n0 1 2 3\nCELL_TYPES 1\n10\n",
+        1,
+    ),
+    (
+        b"005.001",
+        b"CELLS 2 4\nOFFSETS int\n0 4\nMETADATA\n\nCONNECTIVITY int\n0 1 2 3\nCELL_TYPES 1\n10\n",
+        1,
+    ),
+    (
+        b"5.1",
+        b"CELLS 7 12\nOFFSETS int\n0 0 4 4 4 8 12\nCONNECTIVITY int\n0 1 2 3 3 2 1 0 1 0 2 3\nCELL_TYPES 6\n7 10 2 4 10 9\n",
+        2,
+    ),
+    (b"5.1", b"CELLS 0 0\nCELL_TYPES 0\n", 0),
+    (
+        b"5.1",
+        b"CELLS 0 0\noffsets int\nCONNECTIVITY int\nCELL_TYPES 0\n",
+        0,
+    ),
+    (
+        b"5.1",
+        b"CELLS 1 0\nOFFSETS vtktypeint64\n0\nCONNECTIVITY vtktypeint64\nCELL_TYPES 0\n",
+        0,
+    ),
+];
+
 #[test]
 fn offsets(rt: HostRuntime) -> Result<(), Fail> {
     let alloc = rt.alloc();
-    let faults: [(&[u8], &[u8], MeshKind, u64); 15] = [
-        (
-            b"5.1",
-            b"CELLS 2 4\nOFFSETS vtktypeint64\n0 3\n",
-            MeshKind::Size,
-            133,
-        ),
-        (
-            b"5.1",
-            b"CELLS 2 4\nOFFSETS vtktypeint64\n1 4\n",
-            MeshKind::Size,
-            131,
-        ),
-        (
-            b"5.1",
-            b"CELLS 4 4\nOFFSETS vtktypeint64\n0 3 2 4\n",
-            MeshKind::Size,
-            135,
-        ),
-        (
-            b"5.1",
-            b"CELLS 3 4\nOFFSETS vtktypeint64\n0 5 4\n",
-            MeshKind::Size,
-            133,
-        ),
-        (
-            b"5.1",
-            b"CELLS 1 4\nOFFSETS vtktypeint64\n0\n",
-            MeshKind::Size,
-            131,
-        ),
-        (
-            b"5.1",
-            b"CELLS 2 4\nOFFSETS vtktypeint64\n0 4294967296\n",
-            MeshKind::Count,
-            133,
-        ),
-        (b"5.1", b"CELLS 4000002 4\n", MeshKind::Count, 106),
-        (b"5.1", b"CELLS 0 1\n", MeshKind::Size, 108),
-        (
-            b"5.1",
-            b"CELLS 0 0\nMETADATA\n\nOFFSETS int\n",
-            MeshKind::Keyword,
-            120,
-        ),
-        (
-            b"5.1",
-            b"CELLS 2 4\nOFSETS vtktypeint64\n",
-            MeshKind::Keyword,
-            110,
-        ),
-        (b"5.1", b"CELLS 1 5\n4 0 1 2 3\n", MeshKind::Keyword, 110),
-        (
-            b"5.0",
-            b"CELLS 2 4\nOFFSETS vtktypeint64\n",
-            MeshKind::Version,
-            23,
-        ),
-        (
-            b"3.0",
-            b"CELLS 2 4\nOFFSETS vtktypeint64\n",
-            MeshKind::Number,
-            110,
-        ),
-        (
-            b"5.1",
-            b"CELLS 2 4\nOFFSETS vtktypeint64\n0 4\nCONNECTIVITY vtktypeint64\n0 1 2 4\n",
-            MeshKind::Index,
-            167,
-        ),
-        (
-            b"5.1",
-            b"CELLS 2 4\nOFFSETS vtktypeint64\n0 4\nCONNECTIVITY vtktypeint64\n0 1 2 2\nCELL_TYPES 1\n10\n",
-            MeshKind::SameVertex,
-            182,
-        ),
-    ];
-    for (version, cells, kind, place) in faults {
+    for (version, cells, kind, place) in BAD_OFFSETS {
         let text = with_cells(alloc, version, cells)?;
         assert!(rt; has_fault(alloc, &text, kind, place), "at {place}");
     }
-    let meshes: [(&[u8], &[u8], usize); 6] = [
-        (
-            b"5.1",
-            b"CELLS 2 4\nOFFSETS vtktypeint64\n0 4\nCONNECTIVITY vtktypeint64\n0 1 2 3\nCELL_TYPES 1\n10\n",
-            1,
-        ),
-        (
-            b"005.001",
-            b"CELLS 2 4\nOFFSETS int\n0 4\nMETADATA\n\nCONNECTIVITY int\n0 1 2 3\nCELL_TYPES 1\n10\n",
-            1,
-        ),
-        (
-            b"5.1",
-            b"CELLS 7 12\nOFFSETS int\n0 0 4 4 4 8 12\nCONNECTIVITY int\n0 1 2 3 3 2 1 0 1 0 2 3\nCELL_TYPES 6\n7 10 2 4 10 9\n",
-            2,
-        ),
-        (b"5.1", b"CELLS 0 0\nCELL_TYPES 0\n", 0),
-        (
-            b"5.1",
-            b"CELLS 0 0\noffsets int\nCONNECTIVITY int\nCELL_TYPES 0\n",
-            0,
-        ),
-        (
-            b"5.1",
-            b"CELLS 1 0\nOFFSETS vtktypeint64\n0\nCONNECTIVITY vtktypeint64\nCELL_TYPES 0\n",
-            0,
-        ),
-    ];
-    for (version, cells, count) in meshes {
+    for (version, cells, count) in GOOD_OFFSETS {
         let text = with_cells(alloc, version, cells)?;
         assert!(rt; has_mesh(alloc, &text, 4, count), "with {count} cells");
     }

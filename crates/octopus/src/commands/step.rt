@@ -10,14 +10,14 @@ ghost use Rattle.octopus.specs.Outcomes.{Owes};
 use crate::files::load_job;
 use crate::outcome::Early;
 use crate::refusal::Refusal;
-use job_steps::{Maker, mesh_of};
+use job_steps::Maker;
 use mesh_base::NoMemory;
 use oct_edge::Folder;
 use run_script::Job;
 use std::alloc::Global;
 use std::sync::Arc;
+use step_text::write_step;
 use step_view::Step;
-use vtk_legacy::write_mesh;
 
 // Makes the steps of a job up to this one, and hands out that one alone.
 fn make_step(alloc: Global, job: Job, number: u32) -> Result<Step, NoMemory>
@@ -33,14 +33,13 @@ fn make_step(alloc: Global, job: Job, number: u32) -> Result<Step, NoMemory>
 }
 
 // The text of the mesh of a step.
-fn step_text(alloc: Global, job: Job, number: u32) -> Result<Vec<u8>, NoMemory>
+fn text_of(alloc: Global, job: Job, number: u32) -> Result<Vec<u8>, NoMemory>
     requires { number ≤ length job.plans }
     ensures { IfOk result (λ text. text.items ≡ mesh_spelling (step_at job number)) }
 {
     let step = make_step(alloc, job, number)?;
-    let mesh = mesh_of(alloc, &step)?;
     let mut text = Vec::new(alloc);
-    write_mesh(alloc, &mesh, &mut text)?;
+    write_step(alloc, &step, &mut text)?;
     Ok(text)
 }
 
@@ -63,5 +62,5 @@ pub fn run_step<F: Folder>(
             why: Refusal::NoStep { step, last },
         });
     }
-    Ok(step_text(alloc, job, step)?)
+    Ok(text_of(alloc, job, step)?)
 }

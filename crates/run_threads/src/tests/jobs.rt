@@ -1,6 +1,7 @@
 //! Jobs for the tests.
-use mesh_base::{Cell, CellList, Mesh, NoMemory, Point, PointList};
+use mesh_base::NoMemory;
 use run_script::Job;
+use sample_meshes::mesh_of;
 use script_format::read_script;
 use std::alloc::Global;
 use std::test::Fail;
@@ -9,24 +10,6 @@ use std::test::Fail;
 const PLACES: [[i32; 3]; 4] = [[0, 0, 0], [4, 0, 0], [0, 4, 0], [0, 0, 4]];
 
 const CORNERS: [[u32; 4]; 1] = [[0, 1, 2, 3]];
-
-fn mesh_of(
-    alloc: Global,
-    places: &[[i32; 3]],
-    corners: &[[u32; 4]],
-) -> Result<Option<Mesh>, NoMemory> {
-    let mut points = Vec::new(alloc);
-    for [x, y, z] in places {
-        if let Some(at) = Point::new(*x, *y, *z) {
-            points.push(at)?;
-        }
-    }
-    let mut cells = Vec::new(alloc);
-    for four in corners {
-        cells.push(Cell::new(*four))?;
-    }
-    Ok(Mesh::new(PointList::of(points), CellList::of(cells)))
-}
 
 // The job of a mesh and the text of a script, if they are one.
 fn try_job(

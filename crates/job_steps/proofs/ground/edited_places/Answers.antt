@@ -1,4 +1,4 @@
-use Rattle.std.proofs.Common.{◌∙◌, All, sym, ap, subst, length, length-append}
+use Rattle.std.proofs.Common.{◌∙◌, All, arith, sym, ap, subst, length, length-append}
 use Rattle.std.specs.Arc.{arc_value}
 use Rattle.std.proofs.lemmas.List.Elements.{All-append}
 use Rattle.mesh_base.specs.Place.{IsPlace}
@@ -7,12 +7,12 @@ use Rattle.job_steps.proofs.PlanLaws.{new_points_in_range}
 use Rattle.job_steps.proofs.Played.{added-len, edited_mesh}
 use Rattle.job_steps.proofs.ground.edited_places.Goals as goal
 
-pub with_added-requires-clause-count : goal.with_added-requires-clause-count
-with_added-requires-clause-count c =
+pub with_added-requires : goal.with_added-requires
+with_added-requires c =
     let of_plan = c.items.ensures ∙ ap (λ p. p.edits) c.plan.ensures.plan in
     let added = c.deref.ensures.value ∙ c.in_ok-added.ensures.added in
-    added-len c.args.job.now c.args.k c.args.topo.now c.make_edits.new.topo (arc_value c.args.places.now) c.requires.now c.items.result.now of_plan c.in_ok-added.ensures.edited c.deref.result.now added
-    ∙ sym c.points.ensures.points
+    let len = added-len c.args.job.now c.args.k c.args.topo.now c.make_edits.new.topo (arc_value c.args.places.now) c.requires.now c.items.result.now of_plan c.in_ok-added.ensures.edited c.deref.result.now added in
+    omega (arith, len, c.points-few.ensures.few)
 
 pub returns-clause-points : goal.returns-clause-points
 returns-clause-points c =

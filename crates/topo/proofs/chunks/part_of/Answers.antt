@@ -1,4 +1,4 @@
-use Rattle.std.proofs.Common.{◌≡◌, ◌+◌, ◌-◌, ◌*◌, min, length, arith, sym}
+use Rattle.std.proofs.Common.{◌*◌, arith}
 use Rattle.topo.proofs.ChunkLaws.{part-chunk}
 use Rattle.topo.proofs.chunks.part_of.Goals as goal
 use Rattle.topo.proofs.chunks.part_of.Goals.{then-rest-lt-CHUNK, else-rest-lt-CHUNK}

@@ -1,8 +1,6 @@
-use Rattle.std.proofs.Common.{◌≡◌, ◌/◌, [], ◌∷◌, Some, None, ap, sym, subst, take, length}
+use Rattle.std.proofs.Common.{[], ◌∷◌, Some, None, sym, length}
 use Rattle.std.specs.Arc.{arc_value}
 use Rattle.mesh_base.specs.Mesh.{corners_of}
-use Rattle.mesh_base.specs.Edit.{cell_at}
-use Rattle.topo.specs.Shapes.{AreKeptCells}
 use Rattle.topo.proofs.StayLaws.{cells-append, cells-set, cells-split}
 use Rattle.topo.proofs.kept.forget_cells.Goals as goal
 

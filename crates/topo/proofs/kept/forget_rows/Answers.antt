@@ -1,8 +1,6 @@
-use Rattle.std.proofs.Common.{◌≡◌, ap, ◌∙◌, sym, subst, arith, length}
+use Rattle.std.proofs.Common.{sym, subst}
 use Rattle.std.specs.Arc.{arc_value}
 use Rattle.mesh_base.specs.Mesh.{AreWithin}
-use Rattle.mesh_base.specs.Edit.{edited}
-use Rattle.topo.specs.Shapes.{AreKeptRows, topology_of, left_rows, left_corners}
 use Rattle.topo.proofs.StayLaws.{rows-left}
 use Rattle.topo.proofs.kept.forget_rows.Goals as goal
 

@@ -1,6 +1,6 @@
-use Rattle.std.proofs.Common.{◌≡◌, ◌∷◌, [], ◌++◌, length, sym, ap, subst, ◌∙◌, arith, length-append}
+use Rattle.std.proofs.Common.{◌≡◌, ◌∷◌, [], length, sym, ap, ◌∙◌, arith, length-append}
 use Rattle.std.specs.Arc.{arc_value}
-use Rattle.topo.specs.Chunks.{AreFront, chunk_of}
+use Rattle.topo.specs.Chunks.{chunk_of}
 use Rattle.topo.proofs.ChunkLaws.{front-push}
 use Rattle.topo.proofs.positions.chunks_with.Goals as goal
 

@@ -1,4 +1,4 @@
-use Rattle.std.proofs.Common.{◌≡◌, ◌<◌, length, flat_map, get_or, pos, ap, ◌∙◌, arith}
+use Rattle.std.proofs.Common.{◌<◌, length, flat_map, get_or, pos, ap, ◌∙◌, arith}
 use Rattle.std.specs.Arc.{arc_value}
 use Rattle.mesh_base.specs.Place.{Place}
 use Rattle.topo.proofs.ChunkLaws.{chunk-holding, within-chunk, entry-chunk}

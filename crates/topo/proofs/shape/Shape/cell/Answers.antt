@@ -1,4 +1,4 @@
-use Rattle.std.proofs.Common.{◌≡◌, ◌<◌, length, flat_map, ap, sym, ◌∙◌, arith}
+use Rattle.std.proofs.Common.{◌<◌, length, flat_map, ap, sym, ◌∙◌, arith}
 use Rattle.std.specs.Arc.{arc_value}
 use Rattle.mesh_base.specs.Edit.{cell_at}
 use Rattle.topo.proofs.ChunkLaws.{chunk-holding, within-chunk, entry-chunk}

@@ -1,6 +1,5 @@
-use Rattle.std.proofs.Common.{◌≡◌, ◌%◌, ◌<◌, flat_map, ap, sym, subst, ◌∙◌, arith, filter}
+use Rattle.std.proofs.Common.{◌%◌, ◌<◌, flat_map, ap, sym, subst, ◌∙◌, arith}
 use Rattle.std.specs.Arc.{arc_value}
-use Rattle.mesh_base.specs.Mesh.{is_vertex}
 use Rattle.topo.specs.Topology.{Topology, IsTopology}
 use Rattle.topo.specs.RowChunks.{row_of, HasRow}
 use Rattle.topo.proofs.ShapeLaws.{rows-holding}

@@ -1,4 +1,4 @@
-use Rattle.std.proofs.Common.{◌≡◌, ◌∙◌, ap, length}
+use Rattle.std.proofs.Common.{◌∙◌, ap, length}
 use Rattle.std.specs.Arc.{arc_value}
 use Rattle.topo.specs.Cells.{listed}
 use Rattle.topo.proofs.ShapeLaws.{shape-of}

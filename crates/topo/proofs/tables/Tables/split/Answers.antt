@@ -1,4 +1,4 @@
-use Rattle.std.proofs.Common.{◌≡◌, ◌+◌, ◌++◌, Some, None, set, map, length, ap, sym, ◌∙◌, arith}
+use Rattle.std.proofs.Common.{◌≡◌, ◌++◌, Some, None, set, map, length, ap, sym, ◌∙◌, arith}
 use Rattle.mesh_base.specs.Edit.{cell_at}
 use Rattle.face_table.specs.Tally.{tally_in}
 use Rattle.topo.specs.Cells.{listed}

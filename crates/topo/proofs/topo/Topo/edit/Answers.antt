@@ -3,7 +3,7 @@ use Rattle.std.specs.Arc.{arc_value}
 use Rattle.mesh_base.specs.Mesh.{AreWithin}
 use Rattle.mesh_base.specs.Edit.{edited}
 use Rattle.topo.specs.Topology.{IsTopologyOf}
-use Rattle.topo.specs.Shapes.{AreKeptCells, AreKeptRows, topology_of}
+use Rattle.topo.specs.Shapes.{AreKeptCells, AreKeptRows}
 use Rattle.topo.proofs.ShapeLaws.{topology-is}
 use Rattle.topo.proofs.topo.Topo.edit.Goals as goal
 
