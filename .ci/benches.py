@@ -51,7 +51,8 @@ def faults_of(script: pathlib.Path, parts: pathlib.Path) -> list[str]:
     if SOURCES not in text:
         return ["doesn't source parts.sh"]
     paths = re.findall(r'"\$(top|here)/([\w./-]+)"', text)
-    faults += [f"names {path}, which isn't there" for at, path in paths if not ((TOP if at == "top" else script.parent) / path).exists()]
+    folders = {"top": TOP, "here": script.parent}
+    faults += [f"names {path}, which isn't there" for at, path in paths if not (folders[at] / path).exists()]
     asked = [crate for words in words_after(text, "take_crates") for crate in words]
     unknown = [crate for crate in asked if crate not in OURS]
     if unknown:
